@@ -1,1 +1,4 @@
 pub mod Views
+pub mod Faults
+pub mod Formats
+pub mod Reads
