@@ -4,7 +4,7 @@ use native.Mathlib.Omega.{arith}
 use borrow.Author.Count.{below-more}
 use borrow.Author.Tests.{eqb-true, eqb-false}
 use Rattle.sets.specs.Sets.{In}
-use Rattle.londex.proofs.Outlines.{group-is, groups-are}
+use Rattle.book.proofs.Fronts.{group-is, groups-are}
 use Rattle.londex.proofs.distances.common_group.Needs as need
 use Rattle.londex.proofs.distances.common_group.Needs.{else-contains·by·then-contains·else-contains-2, else-contains·by·else-contains}
 

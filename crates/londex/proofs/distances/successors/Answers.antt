@@ -6,7 +6,7 @@ use Rattle.std.proofs.shelf.Ways.{not-from-decides}
 use Rattle.model.specs.Tasks.{idle}
 use Rattle.book.specs.Views.{task}
 use Rattle.londex.specs.Reaches.{Marks}
-use Rattle.londex.proofs.Outlines.{action-is, group-is, actions-are}
+use Rattle.book.proofs.Fronts.{action-is, group-is, actions-are}
 use Rattle.londex.proofs.Reaches.{After-by, after-none, after-in, after-out, after-all}
 use Rattle.londex.proofs.distances.successors.Needs as need
 use Rattle.londex.proofs.distances.successors.Needs.{then-meets, else-meets}

@@ -1,0 +1,4 @@
+pub mod Commands
+pub mod Held
+pub mod Refusals
+pub mod Replies

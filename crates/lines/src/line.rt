@@ -1,0 +1,14 @@
+// The struct alone: what its methods cite names it.
+ghost use mathlib.Core.Path.{_≡_};
+ghost use Prim.Native.Nat.{_≤_};
+ghost use lib.ListN.{length};
+
+pub mod methods;
+
+// The line so far. No command is longer than 13 bytes, so what is past 16 is not kept.
+#[derive(Clone, Copy)]
+pub struct Line {
+    bytes: [u8; 16],
+    len: usize,
+    ghost fit: { (length bytes ≡ 16) × (len ≤ 16) },
+}
