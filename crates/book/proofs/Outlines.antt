@@ -15,13 +15,13 @@ use Rattle.sets.proofs.Members.{out-or-in}
 use Rattle.sets.proofs.Counts.{one-from, one-to}
 use Rattle.model.specs.declared.Action.{Action}
 use Rattle.model.specs.Tasks.{Task, Lawful, Fits, Has, idle, action, group, bar}
-use Rattle.book.specs.declared.faults.Record.the-variants.{Head, Action as InAction}
-use Rattle.book.specs.declared.faults.Fault.{Fault}
-use Rattle.book.specs.declared.faults.Fault.the-variants.{Field, AddsAndDeletes, SharedGroup, NotOneAtStart, BrokenGroup, BarAtStart}
+use Rattle.faults.specs.declared.Record.the-variants.{Head, Action as InAction}
+use Rattle.faults.specs.declared.Fault.{Fault}
+use Rattle.faults.specs.declared.Fault.the-variants.{Field, AddsAndDeletes, SharedGroup, NotOneAtStart, BrokenGroup, BarAtStart}
 use Rattle.book.specs.declared.tables.Part.the-variants.{Groups, Bars}
 use Rattle.book.specs.declared.outline.Outline.{Outline}
 use Rattle.book.specs.Views.{task, Counted, Wide, Padded}
-use Rattle.book.specs.Faults.{Breaks}
+use Rattle.faults.specs.Faults.{Breaks}
 use Rattle.book.specs.Formats.{Read, read-counts, read-ends, read-action, read-set, read-table, part-record, read-end, read-outline, outline-of}
 use Rattle.book.proofs.Fronts.{action-is, group-is, bar-is, actions-are, groups-are, bars-are}
 use Rattle.book.proofs.Turns.{same-value}
@@ -90,13 +90,17 @@ fits-stable a g nn = record {
     moving e =
         let one = one-from (a .adds) g e in
         let unrest : Apart (a .adds) g × Apart (a .deletes) g → ⊥ = λ r. r .0 (one .0) (one .1) (one .2) in
-        inr (one,
+        inr (
+          one,
           one-stable (a .deletes) g (λ n. nn (λ f. ⊎-elim unrest (λ m. n (m .1)) (f .moves))),
-          λ i p q. ⊎-elim (λ out. absurd (nn (λ f. ⊎-elim unrest (λ m. let in′ = m .2 i p q in omega arith) (f .moves)))) (λ in′. in′) (out-or-in i (a .needs)))
+          λ i p q. ⊎-elim (λ out. absurd (nn (λ f. ⊎-elim unrest (λ m. let in′ = m .2 i p q in omega arith) (f .moves)))) (λ in′. in′) (out-or-in i (a .needs)),
+        )
 
     resting : (ones (bitAnd (a .adds) g) ≡ 1 → ⊥) → Moves a g
-    resting ne = inl (λ i p q. nn (λ f. ⊎-elim (λ r. r .0 i p q) (λ m. ne (one-to (a .adds) g (m .0))) (f .moves)),
-        λ i p q. nn (λ f. ⊎-elim (λ r. r .1 i p q) (λ m. ne (one-to (a .adds) g (m .0))) (f .moves)))
+    resting ne = inl (
+      λ i p q. nn (λ f. ⊎-elim (λ r. r .0 i p q) (λ m. ne (one-to (a .adds) g (m .0))) (f .moves)),
+      λ i p q. nn (λ f. ⊎-elim (λ r. r .1 i p q) (λ m. ne (one-to (a .adds) g (m .0))) (f .moves)),
+    )
 
 pub tidy-lawful : (o : Outline) → Tidy o → ((f : Fault) → Breaks (task o) f → ⊥) → Lawful (task o)
 tidy-lawful o t unbroken = record {
@@ -118,13 +122,18 @@ tidy-lawful o t unbroken = record {
   where
     actions : length (task o .actions) ≡ o .«action_count»
     actions = actions-are o (tidy-wide o t) (t .counted)
+
     groups : length (task o .groups) ≡ o .«group_count»
     groups = groups-are o (tidy-wide o t) (t .counted)
+
     bars : length (task o .bars) ≡ o .«bar_count»
     bars = bars-are o (tidy-wide o t) (t .counted)
+
     action-in : (a : ℕ) → Has (task o) a → a < o .«action_count»
     action-in a h = omega (arith, actions)
+
     group-in : (g : ℕ) → g < length (task o .groups) → g < o .«group_count»
     group-in g h = omega (arith, groups)
+
     bar-in : (i : ℕ) → i < length (task o .bars) → i < o .«bar_count»
     bar-in i h = omega (arith, bars)

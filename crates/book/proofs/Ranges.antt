@@ -14,11 +14,11 @@ use Rattle.std.specs.declared.result.Result.{Result}
 use Rattle.std.specs.declared.result.Result.the-variants.{Ok, Err}
 use Rattle.model.specs.declared.Action.{Action}
 use Rattle.model.specs.Tasks.{idle}
-use Rattle.book.specs.declared.faults.Record.{Record}
-use Rattle.book.specs.declared.faults.FieldFault.{FieldFault}
-use Rattle.book.specs.declared.faults.FieldFault.the-variants.{CutShort, OutOfLimits, EmptySet, UnknownFact}
-use Rattle.book.specs.declared.faults.Fault.{Fault}
-use Rattle.book.specs.declared.faults.Fault.the-variants.{Field}
+use Rattle.faults.specs.declared.Record.{Record}
+use Rattle.faults.specs.declared.FieldFault.{FieldFault}
+use Rattle.faults.specs.declared.FieldFault.the-variants.{CutShort, OutOfLimits, EmptySet, UnknownFact}
+use Rattle.faults.specs.declared.Fault.{Fault}
+use Rattle.faults.specs.declared.Fault.the-variants.{Field}
 use Rattle.book.specs.declared.records.Counts.{Counts}
 use Rattle.book.specs.declared.records.Ends.{Ends}
 use Rattle.book.specs.Formats.{Read, follow, then, word, read-byte, read-count, read-map, read-set, read-optional, read-counts, read-ends, read-action, read-many, filled-up, read-table}

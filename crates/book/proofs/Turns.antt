@@ -8,10 +8,10 @@ use Rattle.std.proofs.shelf.Lists.{append-assoc, set-at, length-push}
 use Rattle.std.specs.Results.{mapped}
 use Rattle.std.specs.declared.result.Result.{Result}
 use Rattle.std.specs.declared.result.Result.the-variants.{Ok, Err}
-use Rattle.book.specs.declared.faults.Record.{Record}
-use Rattle.book.specs.declared.faults.FieldFault.{FieldFault}
-use Rattle.book.specs.declared.faults.Fault.{Fault}
-use Rattle.book.specs.declared.faults.Fault.the-variants.{Field}
+use Rattle.faults.specs.declared.Record.{Record}
+use Rattle.faults.specs.declared.FieldFault.{FieldFault}
+use Rattle.faults.specs.declared.Fault.{Fault}
+use Rattle.faults.specs.declared.Fault.the-variants.{Field}
 use Rattle.book.specs.Formats.{Read, follow, then, with-place, read-many, filled-up, read-table}
 
 abbrev value-or : {A E : Type 0} → A → Read A E → A
@@ -83,7 +83,7 @@ module _ {A : Type 0} (one : List ℕ → ℕ → Read A FieldFault) (record-of 
       step : (r : Read A FieldFault)
           → ((a : A) (q : ℕ) → fill n ((pre ++ a ∷ []) ++ replicate (n + k) empty) (i + 1) bs q ≡ padded empty (pre ++ a ∷ []) k (read-many one record-of n (i + 1) bs q))
           → follow (Field (record-of i)) r (λ a q. fill n (set (pre ++ replicate (suc n + k) empty) i a) (i + 1) bs q)
-            ≡ padded empty pre k (follow (Field (record-of i)) r (λ a q. then (read-many one record-of n (i + 1) bs q) λ rest r. Ok (a ∷ rest, r)))
+          ≡ padded empty pre k (follow (Field (record-of i)) r (λ a q. then (read-many one record-of n (i + 1) bs q) λ rest r. Ok (a ∷ rest, r)))
       step (Ok (a, q)) ih =
           ap (λ (l : List A). fill n l (i + 1) bs q) (shape a)
           ∙ ih a q ∙ regroup a (read-many one record-of n (i + 1) bs q)

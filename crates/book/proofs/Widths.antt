@@ -9,8 +9,8 @@ use lib.ListN.{length}
 use lib.Pow.{pow-pos, pow-mono}
 use Rattle.std.proofs.shelf.Tests.{cases-lt, lt-ltb, le-ltb, ne-eqb}
 use Rattle.std.specs.declared.result.Result.the-variants.{Ok, Err}
-use Rattle.book.specs.declared.faults.FieldFault.{FieldFault}
-use Rattle.book.specs.declared.faults.FieldFault.the-variants.{UnknownFact}
+use Rattle.faults.specs.declared.FieldFault.{FieldFault}
+use Rattle.faults.specs.declared.FieldFault.the-variants.{UnknownFact}
 use Rattle.book.specs.Formats.{Read, word, read-set}
 
 pub low-from-shift : (s k : ℕ) → s / 2 ^ k ≡ 0 → s < 2 ^ k

@@ -11,12 +11,12 @@ use Rattle.std.specs.declared.result.Result.{Result}
 use Rattle.std.specs.declared.result.Result.the-variants.{Ok, Err}
 use Rattle.model.specs.declared.Action.{Action}
 use Rattle.model.specs.Tasks.{idle}
-use Rattle.book.specs.declared.faults.Record.{Record}
-use Rattle.book.specs.declared.faults.Record.the-variants.{Head, Action as InAction, Group as InGroup, Bar as InBar}
-use Rattle.book.specs.declared.faults.FieldFault.{FieldFault}
-use Rattle.book.specs.declared.faults.FieldFault.the-variants.{CutShort, OutOfLimits, UnknownBit, EmptySet, UnknownFact}
-use Rattle.book.specs.declared.faults.Fault.{Fault}
-use Rattle.book.specs.declared.faults.Fault.the-variants.{Field, BytesLeft}
+use Rattle.faults.specs.declared.Record.{Record}
+use Rattle.faults.specs.declared.Record.the-variants.{Head, Action as InAction, Group as InGroup, Bar as InBar}
+use Rattle.faults.specs.declared.FieldFault.{FieldFault}
+use Rattle.faults.specs.declared.FieldFault.the-variants.{CutShort, OutOfLimits, UnknownBit, EmptySet, UnknownFact}
+use Rattle.faults.specs.declared.Fault.{Fault}
+use Rattle.faults.specs.declared.Fault.the-variants.{Field, BytesLeft}
 use Rattle.book.specs.declared.records.Counts.{Counts}
 use Rattle.book.specs.declared.records.Ends.{Ends}
 use Rattle.book.specs.declared.tables.Part.{Part}
@@ -134,9 +134,20 @@ read-outline bs p =
     then (read-table 16 0 (read-set (n .facts)) (part-record Groups) (n .groups) bs p3) λ groups p4.
     then (read-table 8 0 (read-set (n .facts)) (part-record Bars) (n .bars) bs p4) λ bars p5.
     then (read-end bs p5) λ _ p6.
-    Ok (record {
-      facts = n .facts; «action_count» = n .actions; «group_count» = n .groups; «bar_count» = n .bars;
-      initial = ends .initial; goal = ends .goal; actions = actions; groups = groups; bars = bars }, p6)
+    Ok (
+      record {
+        facts = n .facts;
+        «action_count» = n .actions;
+        «group_count» = n .groups;
+        «bar_count» = n .bars;
+        initial = ends .initial;
+        goal = ends .goal;
+        actions = actions;
+        groups = groups;
+        bars = bars;
+      },
+      p6,
+    )
 
 -- what the bytes of a file say
 abbrev pub outline-of : List ℕ → Result Outline Fault

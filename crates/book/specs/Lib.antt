@@ -1,4 +1,3 @@
 pub mod Views
-pub mod Faults
 pub mod Formats
 pub mod Reads

@@ -6,10 +6,10 @@ use Prim.Native.Nat.{ℕ}
 use Rattle.std.specs.declared.result.Result.{Result}
 use Rattle.std.specs.declared.result.Result.the-variants.{Ok, Err}
 use Rattle.book.specs.declared.book.Book.{Book}
-use Rattle.book.specs.declared.faults.Fault.{Fault}
+use Rattle.faults.specs.declared.Fault.{Fault}
 use Rattle.book.specs.declared.outline.Outline.{Outline}
 use Rattle.book.specs.Views.{task}
-use Rattle.book.specs.Faults.{First-broken}
+use Rattle.faults.specs.Faults.{First-broken}
 use Rattle.book.specs.Formats.{outline-of}
 
 -- the book that the bytes say; or the first field at fault; or, where every field is right, the first fault of the whole book

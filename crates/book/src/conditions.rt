@@ -4,9 +4,9 @@ ghost use Prim.Native.Nat.{ℕ, _<_};
 ghost use Rattle.std.specs.Orderings.{Decides};
 ghost use Rattle.sets.specs.Sets.{In, Apart, Meet, One};
 ghost use Rattle.model.specs.Tasks.{Fits, Has, action, group};
-ghost use Rattle.book.specs.declared.faults.Fault.the-variants.{AddsAndDeletes, SharedGroup, NotOneAtStart, BrokenGroup, BarAtStart};
+ghost use Rattle.faults.specs.declared.Fault.the-variants.{AddsAndDeletes, SharedGroup, NotOneAtStart, BrokenGroup, BarAtStart};
 ghost use Rattle.book.specs.Views.{task, Counted, Wide};
-ghost use Rattle.book.specs.Faults.{Breaks, Lowest};
+ghost use Rattle.faults.specs.Faults.{Breaks, Lowest};
 use crate::outline::Outline;
 use model::Action;
 

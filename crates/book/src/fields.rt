@@ -1,8 +1,8 @@
 // The readers of single fields.
 ghost use mathlib.Core.Path.{_≡_};
 ghost use Rattle.book.specs.Formats.{with-place, read-byte, read-count, read-map, read-set, read-optional};
-use crate::faults::FieldFault;
 use crate::reader::Reader;
+use faults::FieldFault;
 
 impl<'a> Reader<'a> {
     pub fn new(bytes: &'a [u8]) -> Reader<'a>

@@ -3,11 +3,11 @@ ghost use Rattle.book.specs.Formats.{with-place, read-end, read-outline, outli
 ghost use Rattle.book.specs.Reads.{Reads};
 use crate::book::Book;
 use crate::conditions;
-use crate::faults::Fault;
-use crate::faults::FaultFromField;
 use crate::outline::Outline;
 use crate::reader::Reader;
 use crate::tables::Part;
+use faults::Fault;
+use faults::FaultFromField;
 
 impl<'a> Reader<'a> {
     fn end(&mut self) -> Result<(), Fault>

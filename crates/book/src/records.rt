@@ -1,8 +1,8 @@
 // The readers of records, each a list of fields.
 ghost use mathlib.Core.Path.{_≡_};
 ghost use Rattle.book.specs.Formats.{with-place, read-counts, read-ends, read-action};
-use crate::faults::FieldFault;
 use crate::reader::Reader;
+use faults::FieldFault;
 use model::Action;
 
 // How many of each a book has.
@@ -30,7 +30,12 @@ impl<'a> Reader<'a> {
         let actions = self.count(0, 64)?;
         let groups = self.count(0, 16)?;
         let bars = self.count(0, 8)?;
-        Ok(Counts { facts, actions, groups, bars })
+        Ok(Counts {
+            facts,
+            actions,
+            groups,
+            bars,
+        })
     }
 
     pub fn ends(&mut self, facts: u8) -> Result<Ends, FieldFault>
@@ -51,6 +56,10 @@ impl<'a> Reader<'a> {
         let needs = self.optional(map % 2 == 1, facts)?;
         let adds = self.optional(map / 2 % 2 == 1, facts)?;
         let deletes = self.optional(map / 4 == 1, facts)?;
-        Ok(Action { needs, adds, deletes })
+        Ok(Action {
+            needs,
+            adds,
+            deletes,
+        })
     }
 }

@@ -3,13 +3,13 @@ ghost use mathlib.Core.Path.{_≡_};
 ghost use Prim.Native.Nat.{ℕ, _≤_};
 ghost use Rattle.std.specs.Results.{mapped};
 ghost use Rattle.model.specs.Tasks.{idle};
-ghost use Rattle.book.specs.declared.faults.Fault.the-variants.{Field};
-ghost use Rattle.book.specs.declared.faults.Record.the-variants.{Action as InAction};
+ghost use Rattle.faults.specs.declared.Fault.the-variants.{Field};
+ghost use Rattle.faults.specs.declared.Record.the-variants.{Action as InAction};
 ghost use Rattle.book.specs.Formats.{with-place, read-action, read-set, read-table, part-record};
-use crate::faults::Fault;
-use crate::faults::FieldFault;
-use crate::faults::Record;
 use crate::reader::Reader;
+use faults::Fault;
+use faults::FieldFault;
+use faults::Record;
 use model::Action;
 
 // The two parts of a file that are tables of sets.
@@ -46,7 +46,11 @@ impl<'a> Reader<'a> {
         ensures same { λ _. ⌜ now (now (self .exit) .bytes) ≡ now (now (self .entry) .bytes) ⌝ }
         ensures value { λ r. ⌜ with-place r (now (self .exit) .pos) ≡ read-table 64 idle (read-action facts) InAction count (now (now (self .entry) .bytes)) (now (self .entry) .pos) ⌝ }
     {
-        let mut out = [Action { needs: 0, adds: 0, deletes: 0 }; 64];
+        let mut out = [Action {
+            needs: 0,
+            adds: 0,
+            deletes: 0,
+        }; 64];
         for i in 0..count {
             let a = within(self.action(facts), Record::Action(i))?;
             out[i as usize] = a;
@@ -54,7 +58,12 @@ impl<'a> Reader<'a> {
         Ok(out)
     }
 
-    pub fn sets<const N: usize>(&mut self, facts: u8, count: u8, part: Part) -> Result<[u64; N], Fault>
+    pub fn sets<const N: usize>(
+        &mut self,
+        facts: u8,
+        count: u8,
+        part: Part,
+    ) -> Result<[u64; N], Fault>
         requires { ⌜ count ≤ N ⌝ }
         ensures same { λ _. ⌜ now (now (self .exit) .bytes) ≡ now (now (self .entry) .bytes) ⌝ }
         ensures value { λ r. ⌜ with-place r (now (self .exit) .pos) ≡ read-table N 0 (read-set facts) (part-record part) count (now (now (self .entry) .bytes)) (now (self .entry) .pos) ⌝ }

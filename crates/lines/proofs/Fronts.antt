@@ -1,23 +1,22 @@
 -- A line is told by its first 16 bytes.
-use mathlib.Core.Path.{_≡_, refl, sym, ap, _∙_}
+use mathlib.Core.Path.{_≡_, sym, ap, _∙_}
 use mathlib.Core.Logic.{⊎-elim}
 use mathlib.Core.List.{List, [], _∷_, _++_}
-use Prim.Native.Nat.{ℕ, _+_, _*_, _^_, _≤_, _<_}
+use Prim.Native.Nat.{ℕ, _*_, _≤_}
 use native.Mathlib.Omega.{arith}
 use lib.ListN.{length, take}
 use Rattle.std.specs.declared.result.Result.{Result}
 use Rattle.std.specs.declared.result.Result.the-variants.{Ok, Err}
-use Rattle.std.specs.shelf.Lists.{All}
 use Rattle.std.specs.Written.{decimal}
 use Rattle.std.proofs.shelf.Decimals.{length-decimal-le}
-use Rattle.std.proofs.shelf.Lists.{length-append, length-take, length-take-le, take-all, take-take, take-append-le}
+use Rattle.std.proofs.shelf.Lists.{length-append, length-take-le, take-all, take-take, take-append-le}
 use Rattle.std.proofs.shelf.Tests.{cases-lt}
 use Rattle.lines.specs.declared.command.Command.{Command}
 use Rattle.lines.specs.declared.command.Command.the-variants.{Distance}
 use Rattle.lines.specs.declared.command.NotACommand.{NotACommand}
-use Rattle.lines.specs.Commands.{letter, numbers, spaced, Writes, Commands}
+use Rattle.lines.specs.Commands.{numbers, spaced, Short, Writes, Commands}
 
-length-spaced : (ns : List ℕ) → All (λ n. n < 100000) ns → length (spaced ns) ≤ 6 * length ns
+length-spaced : (ns : List ℕ) → Short ns → length (spaced ns) ≤ 6 * length ns
 length-spaced [] h = omega arith
 length-spaced (n ∷ ns) (h, hs) =
     let low : length (decimal n) ≤ 5 = length-decimal-le 5 n (omega arith) h (omega arith) in

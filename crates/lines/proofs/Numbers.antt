@@ -98,16 +98,17 @@ module _ (s : List ℕ) (i : ℕ) (within : i ≤ length s) (past : 0 < length s
       let at : getD s (length p) 0 ≡ 32 = ap (λ l. getD l (length p) 0) e ∙ getD-at p 32 (decimal b ++ []) 0 (length p) refl in
       ⊎-elim
       (λ lt. let in′ : getD s i 0 ≡ getD (32 ∷ decimal a) i 0 = ap (λ l. getD l i 0) e ∙ getD-append-left p q 0 i lt ∙ ap (λ l. getD l i 0) (one a) in
-        absurd (omega (arith, found (omega arith), digit-past (decimal a) 32 i (digits-decimal own a (fits a h)) (past (omega arith)) (omega arith))))
+      absurd (omega (arith, found (omega arith), digit-past (decimal a) 32 i (digits-decimal own a (fits a h)) (past (omega arith)) (omega arith))))
       (λ ge. ⊎-elim (λ gt. absurd (before (length p) (omega arith) gt at)) (λ le. omega arith) (cases-lt (length p) i))
       (cases-lt i (length p))
 
   pub cut : (a b : ℕ) → Spaced s (a ∷ b ∷ []) → Spaced (take i s) (a ∷ []) × Spaced (take (length s - i) (drop i s)) (b ∷ [])
   cut a b ((h, (k, u)), e) =
       let f = e ∙ joint a b in
-      let p = cut-place a b h f in
-      (((h, tt), ap (take i) f ∙ take-at (spaced (a ∷ [])) (spaced (b ∷ [])) i (sym p)),
-       ((k, tt), take-rest s i ∙ ap (drop i) f ∙ drop-at (spaced (a ∷ [])) (spaced (b ∷ [])) i (sym p)))
+      let p = cut-place a b h f in (
+        ((h, tt), ap (take i) f ∙ take-at (spaced (a ∷ [])) (spaced (b ∷ [])) i (sym p)),
+        ((k, tt), take-rest s i ∙ ap (drop i) f ∙ drop-at (spaced (a ∷ [])) (spaced (b ∷ [])) i (sym p)),
+      )
 
 pub pair-joined : (s : List ℕ) (i a b : ℕ) → Spaced (take i s) (a ∷ []) → Spaced (take (length s - i) (drop i s)) (b ∷ []) → Spaced s (a ∷ b ∷ [])
 pair-joined s i a b ((h, u), p) ((k, v), q) =

@@ -32,10 +32,10 @@ count l = cond (eqb l 100) 2 0
 counted : (c : Command) → length (numbers c) ≡ count (letter c)
 counted (Distance a b) = refl
 
-two : (ns : List ℕ) → length ns ≡ 2 → ns ≡ getD ns 0 0 ∷ getD ns 1 0 ∷ []
+pub two : (ns : List ℕ) → length ns ≡ 2 → (p : ℕ × ℕ) × (ns ≡ p .0 ∷ p .1 ∷ [])
 two [] e = absurd (omega arith)
 two (a ∷ []) e = absurd (omega arith)
-two (a ∷ b ∷ []) e = refl
+two (a ∷ b ∷ []) e = ((a, b), refl)
 two (a ∷ b ∷ d ∷ ns) e = absurd (omega arith)
 
 module _ (s : List ℕ) where
@@ -48,9 +48,10 @@ module _ (s : List ℕ) where
   pub command : (c : Command) → 0 < length s → getD s 0 0 ≡ letter c → Spaced (rest s) (numbers c) → Writes s c
   command c some e h = (h .0, parted s (letter c) some e ∙ ap (λ (t : List ℕ). letter c ∷ t) (h .1))
 
-  pub no-pair : (l : ℕ) → getD s 0 0 ≡ l → count l ≡ 2 → ((p : ℕ × ℕ) → Spaced (rest s) (p .0 ∷ p .1 ∷ []) → ⊥) → (c : Command) → Writes s c → ⊥
-  no-pair l h k none c w =
-      let ns = numbers c in
-      let e = two ns (counted c ∙ ap count (sym (first-byte c w) ∙ h) ∙ k) in
+  -- the letter l takes k numbers, which would be some f x, and no f x follows it
+  pub no-command : {X : Type 0} (f : X → List ℕ) (k l : ℕ) → ((ns : List ℕ) → length ns ≡ k → (x : X) × (ns ≡ f x)) → count l ≡ k → getD s 0 0 ≡ l
+      → ((x : X) → Spaced (rest s) (f x) → ⊥) → (c : Command) → Writes s c → ⊥
+  no-command f k l all n e none c w =
+      let x = all (numbers c) (counted c ∙ ap count (sym (first-byte c w) ∙ e) ∙ n) in
       let P : List ℕ → Type 0 = Spaced (rest s) in
-      none (getD ns 0 0, getD ns 1 0) (subst P e (numbered c w))
+      none (x .0) (subst P (x .1) (numbered c w))

@@ -27,13 +27,17 @@ Decimal s n = (n < 100000) × (s ≡ decimal n)
 abbrev pub spaced : List ℕ → List ℕ
 spaced ns = joined (λ n. codes " " ++ decimal n) ns
 
+-- each number has at most five digits
+abbrev pub Short : List ℕ → Type 0
+Short ns = All (λ n. n < 100000) ns
+
 -- s is the numbers ns, each with a space in front and of at most five digits
 abbrev pub Spaced : List ℕ → List ℕ → Type 0
-Spaced s ns = All (λ n. n < 100000) ns × (s ≡ spaced ns)
+Spaced s ns = Short ns × (s ≡ spaced ns)
 
 -- the bytes s write the command c
 abbrev pub Writes : List ℕ → Command → Type 0
-Writes s c = All (λ n. n < 100000) (numbers c) × (s ≡ letter c ∷ spaced (numbers c))
+Writes s c = Short (numbers c) × (s ≡ letter c ∷ spaced (numbers c))
 
 -- r is a value that has P, or a refusal where no value has it
 abbrev pub Reads : {X : Type 0} → (X → Type 0) → Result X NotACommand → Type 0

@@ -21,8 +21,20 @@ mod tests {
     #[test]
     fn no_commands() -> Result<(), Fail> {
         let lines = [
-            "", "d", "d 1", "d 1 ", "d 00 1", "d  1 2", " d 1 2", "d 1 2 ", "d 1 2 3", "D 1 2",
-            "d 100000 1", "d 1 +2", "d\t1 2", "d 1 2\r",
+            "",
+            "d",
+            "d 1",
+            "d 1 ",
+            "d 00 1",
+            "d  1 2",
+            " d 1 2",
+            "d 1 2 ",
+            "d 1 2 3",
+            "D 1 2",
+            "d 100000 1",
+            "d 1 +2",
+            "d\t1 2",
+            "d 1 2\r",
         ];
         for line in lines {
             check_eq(read(line.as_bytes()), Err(NotACommand)).note(line)?;

@@ -1,4 +1,4 @@
-// The struct alone: what its methods cite names it.
+// The struct stands alone, since a file of specs/ that names it cannot be imported here.
 ghost use mathlib.Core.Path.{_≡_};
 ghost use Prim.Native.Nat.{_≤_};
 ghost use lib.ListN.{length};

@@ -70,8 +70,8 @@ pub fn read(line: &[u8]) -> Result<Command, NotACommand>
     let rest = &line[1..];
     match line[0] as char {
         'd' => {
-            let (from, to) = pair(rest)?;
-            Ok(Command::Distance(from, to))
+            let (a, b) = pair(rest)?;
+            Ok(Command::Distance(a, b))
         }
         _ => Err(NotACommand),
     }

@@ -33,15 +33,25 @@ module _ (b : Task) where
 
   pub follows-more : (x : ℕ) (kept after typed printed out out′ : List ℕ) → Takes b x kept after out out′ → Follows b kept typed printed
       → (more : List ℕ) × Follows b after (typed ++ (x ∷ [])) (printed ++ more) × (out′ ≡ out ++ more)
-  follows-more x kept after typed printed out out′ (inl (n, held, still)) (line, prints, front) =
-      ([], (line ++ (x ∷ []),
-        subst (λ (p : List ℕ). Prints b [] (typed ++ (x ∷ [])) p (line ++ (x ∷ []))) (sym (append-nil printed)) (prints-byte x n prints),
-        sym (take-push line x) ∙ ap (λ (l : List ℕ). take 16 (l ++ (x ∷ []))) front ∙ sym held), still ∙ sym (append-nil out))
-  follows-more x kept after typed printed out out′ (inr (is, held, (reply, r, put))) (line, prints, front) =
-      (text reply ++ (10 ∷ []), ([],
-        subst (λ (y : ℕ). Prints b [] (typed ++ (y ∷ [])) (printed ++ (text reply ++ (10 ∷ []))) []) (sym is)
+  follows-more x kept after typed printed out out′ (inl (n, held, still)) (line, prints, front) = (
+    [],
+    (
+      line ++ (x ∷ []),
+      subst (λ (p : List ℕ). Prints b [] (typed ++ (x ∷ [])) p (line ++ (x ∷ []))) (sym (append-nil printed)) (prints-byte x n prints),
+      sym (take-push line x) ∙ ap (λ (l : List ℕ). take 16 (l ++ (x ∷ []))) front ∙ sym held,
+    ),
+    still ∙ sym (append-nil out),
+  )
+  follows-more x kept after typed printed out out′ (inr (is, held, (reply, r, put))) (line, prints, front) = (
+    text reply ++ (10 ∷ []),
+    (
+      [],
+      subst (λ (y : ℕ). Prints b [] (typed ++ (y ∷ [])) (printed ++ (text reply ++ (10 ∷ []))) []) (sym is)
           (prints-line [] typed printed line reply (replies-front line reply (subst (λ (l : List ℕ). Replies b l reply) (sym front) r)) prints),
-        sym held), put)
+      sym held,
+    ),
+    put,
+  )
 
   -- the end, with no line left
   pub whole-empty : (kept typed printed : List ℕ) → kept ≡ [] → Follows b kept typed printed → Whole b typed (printed ++ [])
@@ -53,9 +63,14 @@ module _ (b : Task) where
 
   -- the end, with a line left
   pub whole-line : (kept typed printed : List ℕ) (reply : Reply) → (kept ≡ [] → ⊥) → Replies b kept reply → Follows b kept typed printed → Whole b typed (printed ++ (text reply ++ (10 ∷ [])))
-  whole-line kept typed printed reply some r (line, prints, front) =
-      (printed, line, text reply ++ (10 ∷ []), prints,
-       inr (λ e. some (sym front ∙ ap (take 16) e), (reply, replies-front line reply (subst (λ (l : List ℕ). Replies b l reply) (sym front) r), refl)), refl)
+  whole-line kept typed printed reply some r (line, prints, front) = (
+    printed,
+    line,
+    text reply ++ (10 ∷ []),
+    prints,
+    inr (λ e. some (sym front ∙ ap (take 16) e), (reply, replies-front line reply (subst (λ (l : List ℕ). Replies b l reply) (sym front) r), refl)),
+    refl,
+  )
 
 -- one byte more of a block
 pub feed-more : (b b′ : Task) → b′ ≡ b → (block : List ℕ) (i : ℕ) → i < length block → (kept after typed printed start out out′ : List ℕ) → Takes b (getD block i 0) kept after out out′
@@ -64,9 +79,10 @@ pub feed-more : (b b′ : Task) → b′ ≡ b → (block : List ℕ) (i : ℕ) 
 feed-more b b′ same block i l kept after typed printed start out out′ took (m, follows, is) =
     let x = getD block i 0 in
     let step = follows-more b x kept after (typed ++ take i block) (printed ++ m) out out′ took follows in
-    let front : (typed ++ take i block) ++ (x ∷ []) ≡ typed ++ take (i + 1) block = append-assoc typed (take i block) (x ∷ []) ∙ ap (λ (t : List ℕ). typed ++ t) (sym (take-more block i 0 l)) in
-    (m ++ step .0,
-     subst (λ (t : Task). Follows t after (typed ++ take (i + 1) block) (printed ++ (m ++ step .0))) (sym same)
-       (subst (λ (t : List ℕ). Follows b after t (printed ++ (m ++ step .0))) front
-       (subst (λ (p : List ℕ). Follows b after ((typed ++ take i block) ++ (x ∷ [])) p) (append-assoc printed m (step .0)) (step .1))),
-     step .2 ∙ ap (λ (o : List ℕ). o ++ step .0) is ∙ append-assoc start m (step .0))
+    let front : (typed ++ take i block) ++ (x ∷ []) ≡ typed ++ take (i + 1) block = append-assoc typed (take i block) (x ∷ []) ∙ ap (λ (t : List ℕ). typed ++ t) (sym (take-more block i 0 l)) in (
+      m ++ step .0,
+      subst (λ (t : Task). Follows t after (typed ++ take (i + 1) block) (printed ++ (m ++ step .0))) (sym same)
+          (subst (λ (t : List ℕ). Follows b after t (printed ++ (m ++ step .0))) front
+          (subst (λ (p : List ℕ). Follows b after ((typed ++ take i block) ++ (x ∷ [])) p) (append-assoc printed m (step .0)) (step .1))),
+      step .2 ∙ ap (λ (o : List ℕ). o ++ step .0) is ∙ append-assoc start m (step .0),
+    )

@@ -8,8 +8,8 @@ use Rattle.std.specs.declared.option.Option.{Option}
 use Rattle.std.specs.declared.result.Result.{Result}
 use Rattle.std.specs.declared.result.Result.the-variants.{Ok, Err}
 use Rattle.model.specs.Tasks.{Task}
-use Rattle.book.specs.declared.faults.Fault.{Fault}
-use Rattle.book.specs.Faults.{fault-number}
+use Rattle.faults.specs.declared.Fault.{Fault}
+use Rattle.faults.specs.Faults.{fault-number}
 use Rattle.londex.specs.declared.refusal.Refusal.{Refusal}
 use Rattle.londex.specs.Answers.{Answers-distance, number as refusal-number}
 use Rattle.lines.specs.declared.command.Command.{Command}

@@ -8,7 +8,7 @@ ghost use Rattle.book.specs.Views.{task};
 ghost use Rattle.lines.specs.Held.{held};
 ghost use Rattle.session.specs.Sessions.{Replies, Takes, Follows, Whole, refused-book};
 use book::book::Book;
-use book::faults::Fault;
+use faults::Fault;
 use lines::command::Command;
 use lines::line::Line;
 use lines::read::read;
@@ -48,7 +48,10 @@ impl Session {
         ensures book { λ r. ⌜ r .book ≡ book ⌝ }
         ensures follows { λ r. ⌜ Follows (task (r .book .outline)) (held (r .line)) [] [] ⌝ }
     {
-        Session { book, line: Line::new() }
+        Session {
+            book,
+            line: Line::new(),
+        }
     }
 
     // One byte more of what is typed; a line feed ends the line.

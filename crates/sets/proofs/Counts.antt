@@ -59,7 +59,7 @@ sole-to = bin-ind (λ (n : ℕ). Sole n → ones n ≤ 1) (λ s. omega (arith, o
         ⊎-elim
         (λ even. omega (arith, ones-step n, ih (λ i j p q. let e : suc i ≡ suc j = s (suc i) (suc j) (digit-half i n ∙ p) (digit-half j n ∙ q) in omega arith)))
         (λ odd. let z : n / 2 ≡ 0 = ⊎-elim (λ e. e) (λ ne. let m = some-member (n / 2) ne in absurd (let e : 0 ≡ suc (m .0) = s 0 (suc (m .0)) odd (digit-half (m .0) n ∙ m .1) in omega arith)) (cases-eq (n / 2) 0) in
-          omega (arith, ones-step n, ap ones z, ones-0))
+        omega (arith, ones-step n, ap ones z, ones-0))
         (out-or-in 0 n)
 
 -- ---- the tests of the code

@@ -66,6 +66,7 @@ same-members = bin-ind (λ (a : ℕ). (b : ℕ) → Part a b → Part b a → a 
   where
     base : (b : ℕ) → Part 0 b → Part b 0 → 0 ≡ b
     base b p q = ⊎-elim (λ z. sym z) (λ n. let m = some-member b n in absurd (nothing-in (m .0) (q (m .0) (m .1)))) (cases-eq b 0)
+
     step : (a : ℕ) → ((b : ℕ) → Part (a / 2) b → Part b (a / 2) → a / 2 ≡ b) → (b : ℕ) → Part a b → Part b a → a ≡ b
     step a ih b p q =
         let half = ih (b / 2) (λ i h. sym (digit-half i b) ∙ p (suc i) (digit-half i a ∙ h)) (λ i h. sym (digit-half i a) ∙ q (suc i) (digit-half i b ∙ h)) in

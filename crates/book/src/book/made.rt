@@ -19,6 +19,5 @@ impl Book {
     pub fn law(&self)
         ensures lawful { λ _. ⌜ Lawful (task (now (self .entry) .outline)) ⌝ }
         ensures padded { λ _. ⌜ Padded (now (self .entry) .outline) ⌝ }
-    {
-    }
+    {}
 }

@@ -11,7 +11,10 @@ impl Line {
     pub fn new() -> Line
         ensures { λ r. ⌜ held r ≡ [] ⌝ }
     {
-        Line { bytes: [0; 16], len: 0 }
+        Line {
+            bytes: [0; 16],
+            len: 0,
+        }
     }
 
     pub fn push(&mut self, b: u8)

@@ -22,7 +22,7 @@ loop-i-again c =
     let is = action-is o (c .loop-i .i) (c .loop-i-test .taken) in
     below-more _ _ (c .loop-i .inv)
     (λ h. not-from-decides _ (c .breaks .ensures) (c .if-breaks .left)
-      (h .1 .0, omega (arith, groups-are o (c .pre .wide) (c .pre .counted), h .1 .1), λ f. h .1 .2 (subst (λ (a : Action). Fits a (group (task o) (h .1 .0))) (sym is) f)))
+    (h .1 .0, omega (arith, groups-are o (c .pre .wide) (c .pre .counted), h .1 .1), λ f. h .1 .2 (subst (λ (a : Action). Fits a (group (task o) (h .1 .0))) (sym is) f)))
 
 pub returns : need.returns
 returns c k h =

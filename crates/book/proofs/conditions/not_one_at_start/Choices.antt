@@ -1,7 +1,7 @@
 use Prim.Native.Nat.{ℕ, _<_}
-use Rattle.book.specs.declared.faults.Fault.the-variants.{NotOneAtStart}
+use Rattle.faults.specs.declared.Fault.the-variants.{NotOneAtStart}
 use Rattle.book.specs.Views.{task}
-use Rattle.book.specs.Faults.{Breaks}
+use Rattle.faults.specs.Faults.{Breaks}
 use Rattle.book.proofs.conditions.not_one_at_start.Given as given
 
 abbrev pub Inv-loop-g : given.InvT-loop-g

@@ -24,10 +24,11 @@ returns-then-b-lt48 c = λ n h.
     elim (c .then-b-lt48 .came) [ then-b-lt48·by·then-b-lt48 w ↦ omega (arith, w .if-b-lt48 .taken) | then-b-lt48·by·else-b-lt48·then-b-gt57 w ↦ omega (arith, w .if-b-gt57 .taken) ]
 
 pub loop-b-again : need.loop-b-again
-loop-b-again c =
-    (read-more (c .loop-b .n) (c .loop-b .b-index) (c .args .s .now) _ (c .loop-b-test .taken) refl (c .loop-b .inv .0),
-     below-more (λ k. In 48 57 (getD (c .args .s .now) k 0)) (c .loop-b .b-index) (c .loop-b .inv .1) (c .if-b-lt48 .left, c .if-b-gt57 .left),
-     bound-more (c .loop-b .n) (c .loop-b .b-index) (getD (c .args .s .now) (c .loop-b .b-index) 0 - 48) (c .loop-b .inv .2) (omega (arith, c .if-b-gt57 .left)))
+loop-b-again c = (
+  read-more (c .loop-b .n) (c .loop-b .b-index) (c .args .s .now) _ (c .loop-b-test .taken) refl (c .loop-b .inv .0),
+  below-more (λ k. In 48 57 (getD (c .args .s .now) k 0)) (c .loop-b .b-index) (c .loop-b .inv .1) (c .if-b-lt48 .left, c .if-b-gt57 .left),
+  bound-more (c .loop-b .n) (c .loop-b .b-index) (getD (c .args .s .now) (c .loop-b .b-index) 0 - 48) (c .loop-b .inv .2) (omega (arith, c .if-b-gt57 .left)),
+)
 
 pub returns : need.returns
 returns c =

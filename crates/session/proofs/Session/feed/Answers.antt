@@ -18,18 +18,24 @@ returns-in-Break-take c =
     record { book = c .take .ensures .book ∙ c .loop-b .inv .0; follows = rw (p .1) tt }
 
 pub loop-b-holds : need.loop-b-holds
-loop-b-holds c =
-    (refl, λ typed printed f.
-      ([], subst (λ (t : List ℕ). Follows (task (c .args .self .now .book .outline)) (held (c .args .self .now .line)) t (printed ++ [])) (sym (append-nil typed))
+loop-b-holds c = (
+  refl,
+  λ typed printed f. (
+    [],
+    subst (λ (t : List ℕ). Follows (task (c .args .self .now .book .outline)) (held (c .args .self .now .line)) t (printed ++ [])) (sym (append-nil typed))
         (subst (λ (p : List ℕ). Follows (task (c .args .self .now .book .outline)) (held (c .args .self .now .line)) typed p) (sym (append-nil printed)) f),
-       sym (append-nil (string-bytes (c .args .out .now)))))
+    sym (append-nil (string-bytes (c .args .out .now))),
+  ),
+)
 
 pub loop-b-again : need.loop-b-again
-loop-b-again c =
-    (c .take .ensures .book ∙ c .loop-b .inv .0, λ typed printed f.
+loop-b-again c = (
+  c .take .ensures .book ∙ c .loop-b .inv .0,
+  λ typed printed f.
       feed-more (task (c .loop-b .self .book .outline)) (task (c .take .last .self .book .outline)) (ap (λ (b : Book). task (b .outline)) (c .take .ensures .book))
-        (c .args .block .now) (c .loop-b .b-index) (c .loop-b-test .taken) (held (c .loop-b .self .line)) (held (c .take .last .self .line)) typed printed
-        (string-bytes (c .args .out .now)) (string-bytes (c .loop-b .out)) (string-bytes (c .take .last .out)) (c .in-Continue-take .ensures tt .takes) (c .loop-b .inv .1 typed printed f))
+      (c .args .block .now) (c .loop-b .b-index) (c .loop-b-test .taken) (held (c .loop-b .self .line)) (held (c .take .last .self .line)) typed printed
+      (string-bytes (c .args .out .now)) (string-bytes (c .loop-b .out)) (string-bytes (c .take .last .out)) (c .in-Continue-take .ensures tt .takes) (c .loop-b .inv .1 typed printed f),
+)
 
 pub returns : need.returns
 returns c = record {

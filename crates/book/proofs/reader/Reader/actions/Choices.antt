@@ -1,7 +1,7 @@
 use mathlib.Core.Path.{_≡_}
 use Prim.Native.Nat.{_-_}
 use Rattle.model.specs.Tasks.{idle}
-use Rattle.book.specs.declared.faults.Record.the-variants.{Action as InAction}
+use Rattle.faults.specs.declared.Record.the-variants.{Action as InAction}
 use Rattle.book.specs.Formats.{read-action, read-table}
 use Rattle.book.proofs.Turns.{fill}
 use Rattle.book.proofs.reader.Reader.actions.Given as given
@@ -11,4 +11,4 @@ abbrev pub Inv-loop-i : given.InvT-loop-i
 Inv-loop-i l =
     (l .self .bytes .now ≡ l .entry .self .bytes .now)
     × (fill (read-action (l .facts)) InAction (l .count - l .i) (l .out) (l .i) (l .self .bytes .now) (l .self .pos)
-        ≡ read-table 64 idle (read-action (l .facts)) InAction (l .count) (l .entry .self .bytes .now) (l .entry .self .pos))
+    ≡ read-table 64 idle (read-action (l .facts)) InAction (l .count) (l .entry .self .bytes .now) (l .entry .self .pos))

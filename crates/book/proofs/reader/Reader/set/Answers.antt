@@ -17,9 +17,10 @@ returns-then-s-facts-ne0 c = record {
 pub returns : need.returns
 returns c =
     let low : c .from-le-bytes-s .result < 2 ^ c .args .facts =
-      elim (c .else-facts-lt64 .came)
-        [ else-facts-lt64·by·then-facts-lt64·else-s-facts-ne0 w ↦ low-from-shift _ (c .args .facts) (w .if-s-facts-ne0 .left)
-        | else-facts-lt64·by·else-facts-lt64 w ↦ low-from-width (c .from-le-bytes-s .result) (c .args .facts) (c .from-le-bytes-s .ok) (w .if-facts-lt64 .left) ] in
+    elim (c .else-facts-lt64 .came) [
+      | else-facts-lt64·by·then-facts-lt64·else-s-facts-ne0 w ↦ low-from-shift _ (c .args .facts) (w .if-s-facts-ne0 .left)
+      | else-facts-lt64·by·else-facts-lt64 w ↦ low-from-width (c .from-le-bytes-s .result) (c .args .facts) (c .from-le-bytes-s .ok) (w .if-facts-lt64 .left)
+    ] in
     record {
       same = refl;
       value = set-known (c .args .facts) (c .args .self .now .bytes .now) (c .args .self .now .pos) (c .from-le-bytes-s .result)

@@ -9,4 +9,4 @@ abbrev pub Inv-loop-i : given.InvT-loop-i
 Inv-loop-i g l =
     (l .self .bytes .now ≡ l .entry .self .bytes .now)
     × (fill (read-set (l .facts)) (part-record (l .part)) (l .count - l .i) (l .out) (l .i) (l .self .bytes .now) (l .self .pos)
-        ≡ read-table (g .N) 0 (read-set (l .facts)) (part-record (l .part)) (l .count) (l .entry .self .bytes .now) (l .entry .self .pos))
+    ≡ read-table (g .N) 0 (read-set (l .facts)) (part-record (l .part)) (l .count) (l .entry .self .bytes .now) (l .entry .self .pos))

@@ -7,12 +7,12 @@ use Rattle.std.specs.declared.option.Option.{Option}
 use Rattle.std.specs.declared.option.Option.the-variants.{Some, None}
 use Rattle.sets.specs.Sets.{Part, Meet, One}
 use Rattle.model.specs.Tasks.{Task, Has, Fits, action, group, bar}
-use Rattle.book.specs.declared.faults.Record.{Record}
-use Rattle.book.specs.declared.faults.Record.the-variants.{Head, Action, Group, Bar}
-use Rattle.book.specs.declared.faults.FieldFault.{FieldFault}
-use Rattle.book.specs.declared.faults.FieldFault.the-variants.{CutShort, OutOfLimits, UnknownBit, EmptySet, UnknownFact}
-use Rattle.book.specs.declared.faults.Fault.{Fault}
-use Rattle.book.specs.declared.faults.Fault.the-variants.{Field, BytesLeft, AddsAndDeletes, SharedGroup, NotOneAtStart, BrokenGroup, BarAtStart}
+use Rattle.faults.specs.declared.Record.{Record}
+use Rattle.faults.specs.declared.Record.the-variants.{Head, Action, Group, Bar}
+use Rattle.faults.specs.declared.FieldFault.{FieldFault}
+use Rattle.faults.specs.declared.FieldFault.the-variants.{CutShort, OutOfLimits, UnknownBit, EmptySet, UnknownFact}
+use Rattle.faults.specs.declared.Fault.{Fault}
+use Rattle.faults.specs.declared.Fault.the-variants.{Field, BytesLeft, AddsAndDeletes, SharedGroup, NotOneAtStart, BrokenGroup, BarAtStart}
 
 -- the number of a fault of one field
 abbrev pub field-number : FieldFault → ℕ

@@ -1,8 +1,8 @@
 // Why a file is no book.
 ghost use mathlib.Core.Path.{_≡_};
-ghost use Rattle.book.specs.declared.faults.Record.the-variants.{Head as HEAD};
-ghost use Rattle.book.specs.declared.faults.Fault.the-variants.{Field as FIELD};
-ghost use Rattle.book.specs.Faults.{field-number, field-byte, fault-number, fault-record, fault-byte};
+ghost use Rattle.faults.specs.declared.Record.the-variants.{Head as HEAD};
+ghost use Rattle.faults.specs.declared.Fault.the-variants.{Field as FIELD};
+ghost use Rattle.faults.specs.Faults.{field-number, field-byte, fault-number, fault-record, fault-byte};
 
 // A part of the file. The four counts belong to the head, and so do bytes after the end.
 #[derive(Clone, Copy, PartialEq, Eq, Debug)]
