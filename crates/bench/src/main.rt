@@ -39,7 +39,7 @@ fn serve(rt: &LibcRuntime, book: Book) -> io::Result<()> {
 }
 
 fn main(rt: LibcRuntime) -> io::Result<()> {
-    match book::read::read(book_bytes(&rt).as_slice()) {
+    match reader::read::read(book_bytes(&rt).as_slice()) {
         Ok(book) => serve(&rt, book),
         Err(fault) => {
             let mut out = String::new(rt.alloc());

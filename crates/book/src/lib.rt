@@ -1,9 +1,3 @@
-// The book of a device: its facts, actions, groups and bars, read from a file.
+// The book of a device: its facts, actions, groups and bars, known to be lawful.
 pub mod book;
-mod conditions;
-mod fields;
 pub mod outline;
-pub mod read;
-mod reader;
-mod records;
-mod tables;

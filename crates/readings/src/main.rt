@@ -1,9 +1,9 @@
 // Reads books that are written in hexadecimal, one on a line of standard input, and says what the reader makes of each:
 // `ok` with the numbers of facts, actions, groups and bars, or `no` with the fault's number, its record and its first byte.
 use book::book::Book;
-use book::read::read;
 use faults::Fault;
 use faults::Record;
+use reader::read::read;
 use std::alloc::AllocError;
 use std::alloc::Global;
 use std::io;
