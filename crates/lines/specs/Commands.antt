@@ -8,16 +8,18 @@ use Rattle.std.specs.declared.result.Result.the-variants.{Ok, Err}
 use Rattle.std.specs.shelf.Lists.{All, joined}
 use Rattle.std.specs.Written.{decimal}
 use Rattle.lines.specs.declared.command.Command.{Command}
-use Rattle.lines.specs.declared.command.Command.the-variants.{Distance}
+use Rattle.lines.specs.declared.command.Command.the-variants.{Distance, Gap}
 use Rattle.lines.specs.declared.command.NotACommand.{NotACommand}
 
--- the code of a command's letter: 100 is `d`
+-- the code of a command's letter: `d` and `g`
 abbrev pub letter : Command → ℕ
 letter (Distance a b) = 100
+letter (Gap a b) = 103
 
 -- the numbers that follow the letter
 abbrev pub numbers : Command → List ℕ
 numbers (Distance a b) = a ∷ b ∷ []
+numbers (Gap a b) = a ∷ b ∷ []
 
 -- s is the number n, of at most five digits
 abbrev pub Decimal : List ℕ → ℕ → Type 0

@@ -4,6 +4,7 @@ ghost use Rattle.lines.specs.Refusals.{number};
 #[derive(Clone, Copy, PartialEq, Eq, Debug)]
 pub enum Command {
     Distance(u32, u32),
+    Gap(u32, u32),
 }
 
 #[derive(Clone, Copy, PartialEq, Eq, Debug)]

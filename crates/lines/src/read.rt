@@ -70,8 +70,12 @@ pub fn read(line: &[u8]) -> Result<Command, NotACommand>
     let rest = &line[1..];
     match line[0] as char {
         'd' => {
+            let (v, w) = pair(rest)?;
+            Ok(Command::Distance(v, w))
+        }
+        'g' => {
             let (a, b) = pair(rest)?;
-            Ok(Command::Distance(a, b))
+            Ok(Command::Gap(a, b))
         }
         _ => Err(NotACommand),
     }

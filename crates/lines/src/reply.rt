@@ -11,6 +11,7 @@ use std::fmt;
 #[derive(Clone, Copy, Debug)]
 pub enum Reply {
     Distance(Option<u8>),
+    Gap(Option<u8>),
     No(u8),
     BookNo(u8),
 }
@@ -20,8 +21,8 @@ pub impl fmt::Display for Reply as ReplyDisplay {
 
     fn fmt<W: fmt::Write>(&self, f: &mut fmt::Formatter<W>) -> fmt::Result {
         match *self {
-            Reply::Distance(Some(n)) => write!(f, "{n}"),
-            Reply::Distance(None) => write!(f, "never"),
+            Reply::Distance(Some(n)) | Reply::Gap(Some(n)) => write!(f, "{n}"),
+            Reply::Distance(None) | Reply::Gap(None) => write!(f, "never"),
             Reply::No(n) => write!(f, "no {n}"),
             Reply::BookNo(n) => write!(f, "book no {n}"),
         }

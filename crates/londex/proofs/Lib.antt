@@ -1,1 +1,9 @@
 pub mod Reaches
+pub mod Digits
+pub mod Rests
+pub mod Arcs
+pub mod Cells
+pub mod Paths
+pub mod Covers
+pub mod Rules
+pub mod Exists

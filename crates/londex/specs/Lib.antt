@@ -1,2 +1,5 @@
 pub mod Answers
-pub mod Reaches
+pub mod Bounds
+pub mod Splits
+pub mod Tables
+pub mod Ways

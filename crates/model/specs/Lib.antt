@@ -1,2 +1,5 @@
 pub mod Tasks
 pub mod Distances
+pub mod Plans
+pub mod Gaps
+pub mod Spacing

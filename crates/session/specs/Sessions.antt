@@ -11,12 +11,12 @@ use Rattle.model.specs.Tasks.{Task}
 use Rattle.faults.specs.declared.Fault.{Fault}
 use Rattle.faults.specs.Faults.{fault-number}
 use Rattle.londex.specs.declared.refusal.Refusal.{Refusal}
-use Rattle.londex.specs.Answers.{Answers-distance, number as refusal-number}
+use Rattle.londex.specs.Answers.{Answers-distance, Answers-gap, number as refusal-number}
 use Rattle.lines.specs.declared.command.Command.{Command}
-use Rattle.lines.specs.declared.command.Command.the-variants.{Distance as Ask-distance}
+use Rattle.lines.specs.declared.command.Command.the-variants.{Distance as Ask-distance, Gap as Ask-gap}
 use Rattle.lines.specs.declared.command.NotACommand.{NotACommand}
 use Rattle.lines.specs.declared.reply.Reply.{Reply}
-use Rattle.lines.specs.declared.reply.Reply.the-variants.{Distance, No, BookNo}
+use Rattle.lines.specs.declared.reply.Reply.the-variants.{Distance, Gap, No, BookNo}
 use Rattle.lines.specs.Commands.{Commands}
 use Rattle.lines.specs.Refusals.{number as line-number}
 use Rattle.lines.specs.Replies.{text}
@@ -30,9 +30,15 @@ abbrev pub distance-reply : Result (Option ℕ) Refusal → Reply
 distance-reply (Ok far) = Distance far
 distance-reply (Err e) = No (refusal-number e)
 
+-- and so is a gap
+abbrev pub gap-reply : Result (Option ℕ) Refusal → Reply
+gap-reply (Ok gap) = Gap gap
+gap-reply (Err e) = No (refusal-number e)
+
 -- what a command is answered
 abbrev pub Answers : Task → Command → Reply → Type 0
 Answers b (Ask-distance v w) reply = (r : Result (Option ℕ) Refusal) × Answers-distance b v w r × (reply ≡ distance-reply r)
+Answers b (Ask-gap a c) reply = (r : Result (Option ℕ) Refusal) × Answers-gap b a c r × (reply ≡ gap-reply r)
 
 -- the same of a line that was read; one that writes no command gets its number
 abbrev pub Said : Task → Result Command NotACommand → Reply → Type 0

@@ -6,10 +6,10 @@ use native.Mathlib.Omega.{arith}
 use native.Mathlib.Nat.{zero-div, div-eq-of-lt, pow-suc, mod-eq-of-lt, one-mul}
 use native.Mathlib.Numerals.{one-add}
 use lib.Arith.{bin-ind}
-use lib.Bits.{bitAnd, bitOr, and-shr, or-shr, and-mod, or-mod}
+use lib.Bits.{bitAnd, bitOr, bitXor, and-shr, or-shr, xor-shr, and-mod, or-mod, xor-mod}
 use lib.Pow.{pow-mono, pow-lt, shr-shr}
 use Rattle.std.proofs.shelf.Tests.{cases-lt, cases-eq}
-use Rattle.sets.specs.Sets.{In, Part, Meet}
+use Rattle.sets.specs.Sets.{In, Part, Meet, without}
 
 abbrev pub digit : ℕ → ℕ → ℕ
 digit i s = s / 2 ^ i % 2
@@ -46,6 +46,20 @@ in-and i a b h =
 
 pub and-in : (i a b : ℕ) → In i a → In i b → In i (bitAnd a b)
 and-in i a b p q = and-digit i a b ∙ ap₂ bitAnd p q
+
+xor-digit : (i a b : ℕ) → digit i (bitXor a b) ≡ bitXor (digit i a) (digit i b)
+xor-digit i a b = ap (λ n. n % 2) (xor-shr a b i) ∙ xor-mod (a / 2 ^ i) (b / 2 ^ i) 1
+
+pub in-without : (i a b : ℕ) → In i (without a b) → In i a × (In i b → ⊥)
+in-without i a b h =
+    ⊎-elim (λ p. let z : _≡_ {A = ℕ} 0 1 = ⊎-elim (λ q. sym (split p q) ∙ h) (λ q. sym (split p q) ∙ h) (out-or-in i b) in absurd (omega arith))
+    (λ p. (p, λ q. let z : _≡_ {A = ℕ} 0 1 = sym (split p q) ∙ h in absurd (omega arith))) (out-or-in i a)
+  where
+    split : {m n : ℕ} → digit i a ≡ m → digit i b ≡ n → digit i (without a b) ≡ bitXor m (bitAnd m n)
+    split p q = xor-digit i a (bitAnd a b) ∙ ap₂ bitXor p (and-digit i a b ∙ ap₂ bitAnd p q)
+
+pub without-in : (i a b : ℕ) → In i a → (In i b → ⊥) → In i (without a b)
+without-in i a b p out = ⊎-elim (λ q. xor-digit i a (bitAnd a b) ∙ ap₂ bitXor p (and-digit i a b ∙ ap₂ bitAnd p q)) (λ q. absurd (out q)) (out-or-in i b)
 
 -- ---- numbers by their members
 

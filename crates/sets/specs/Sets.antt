@@ -2,6 +2,7 @@
 use mathlib.Core.Path.{_≡_}
 use mathlib.Core.Bool.{Bool}
 use Prim.Native.Nat.{ℕ, _/_, _%_, _^_}
+use lib.Bits.{bitAnd, bitXor}
 use lib.Dec.{eqb}
 
 -- i is a member of s
@@ -31,3 +32,7 @@ One a b = (i : ℕ) × In i a × In i b × ((j : ℕ) → In j a → In j b → 
 -- at most one member of a is one of b
 abbrev pub AtMostOne : ℕ → ℕ → Type 0
 AtMostOne a b = (i j : ℕ) → In i a → In i b → In j a → In j b → i ≡ j
+
+-- a without the members of b
+abbrev pub without : ℕ → ℕ → ℕ
+without a b = bitXor a (bitAnd a b)

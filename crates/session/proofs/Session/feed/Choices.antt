@@ -10,6 +10,6 @@ use Rattle.session.proofs.Session.feed.Given as given
 
 abbrev pub Inv-loop-b : given.InvT-loop-b
 Inv-loop-b l =
-    (l .self .book ≡ l .entry .self .book)
-    × ((typed printed : List ℕ) → Follows (task (l .entry .self .book .outline)) (held (l .entry .self .line)) typed printed
-    → (more : List ℕ) × Follows (task (l .self .book .outline)) (held (l .self .line)) (typed ++ take (l .b-index) (l .block)) (printed ++ more) × (string-bytes (l .out) ≡ string-bytes (l .entry .out) ++ more))
+    (l .self .londex ≡ l .entry .self .londex)
+    × ((typed printed : List ℕ) → Follows (task (l .entry .self .londex .book .outline)) (held (l .entry .self .line)) typed printed
+    → (more : List ℕ) × Follows (task (l .self .londex .book .outline)) (held (l .self .line)) (typed ++ take (l .b-index) (l .block)) (printed ++ more) × (string-bytes (l .out) ≡ string-bytes (l .entry .out) ++ more))

@@ -12,7 +12,7 @@ use Rattle.session.proofs.Session.finish.Needs as need
 
 pub returns-then-is-empty : need.returns-then-is-empty
 returns-then-is-empty c = λ typed printed f.
-    ([], whole-empty (task (c .args .self .book .outline)) (held (c .args .self .line)) typed printed (c .is-empty .ensures .0 (c .if-is-empty .taken)) f, sym (append-nil (string-bytes (c .args .out .now))))
+    ([], whole-empty (task (c .args .self .londex .book .outline)) (held (c .args .self .line)) typed printed (c .is-empty .ensures .0 (c .if-is-empty .taken)) f, sym (append-nil (string-bytes (c .args .out .now))))
 
 pub returns-in-Break-push-reply : need.returns-in-Break-push-reply
 returns-in-Break-push-reply c =
@@ -20,6 +20,6 @@ returns-in-Break-push-reply c =
 
 pub returns : need.returns
 returns c = λ typed printed f.
-    let b = task (c .args .self .book .outline) in
+    let b = task (c .args .self .londex .book .outline) in
     let said = subst (λ (l : List ℕ). Replies b l (c .reply-answer .result)) (c .bytes .ensures) (c .reply-answer .ensures) in
     (_, whole-line b (held (c .args .self .line)) typed printed (c .reply-answer .result) (not-from-decides _ (c .is-empty .ensures) (c .if-is-empty .left)) said f, c .in-Continue-push-reply .ensures tt)
