@@ -1,0 +1,4 @@
+pub mod Unions
+pub mod Layers
+pub mod Spans
+pub mod Facts
