@@ -19,3 +19,20 @@ pub impl PartialEq<Action> for Action as ActionPartialEq {
 }
 
 pub impl Eq for Action as ActionEq {}
+
+// One booking of a card: this action in this round, rounds counted from 0.
+#[derive(Clone, Copy, Debug)]
+pub struct Booking {
+    pub action: u8,
+    pub round: u8,
+}
+
+pub impl PartialEq<Booking> for Booking as BookingPartialEq {
+    ghost equals = { λ x y r. Decides r (x ≡ y) };
+
+    fn eq(&self, other: &Booking) -> bool {
+        self.action == other.action && self.round == other.round
+    }
+}
+
+pub impl Eq for Booking as BookingEq {}

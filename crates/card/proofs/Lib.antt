@@ -1,0 +1,5 @@
+pub mod Shift
+pub mod Fronts
+pub mod Actions
+pub mod Keeps
+pub mod Every
