@@ -90,7 +90,7 @@ def said(data):
         for i in range(h):
             if bars[i] | initial == initial:
                 no(11, f"bar {i}")
-        return f"ok {n} {m} {g} {h}"
+        return f"ok {n} {m} {g} {h} back true short true"
     except Refused as e:
         return str(e)
 

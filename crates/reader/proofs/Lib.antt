@@ -3,3 +3,8 @@ pub mod Turns
 pub mod Ranges
 pub mod Outlines
 pub mod Order
+pub mod Spans
+pub mod Rounds
+pub mod RecordRounds
+pub mod FileRounds
+pub mod Acceptance

@@ -31,11 +31,14 @@ pub follow-ok : {A B E F : Type 0} (wrap : E → F) (r : Read A E) (rest : A →
 follow-ok wrap (Ok (x, p)) rest z e = (x, p, refl, e)
 follow-ok wrap (Err d) rest z e = let no-way : _≡_ {A = ℕ} 0 1 = cc in absurd (omega arith)
 
-cond-ok : {A E : Type 0} (b : Bool) (y z : A) (d : E) → cond b (Ok y) (Err d) ≡ Ok z → (b ≡ true) × (y ≡ z)
+pub same-ok : {A E : Type 0} (x y : A) → _≡_ {A = Result A E} (Ok x) (Ok y) → x ≡ y
+same-ok x y e = cc
+
+pub cond-ok : {A E : Type 0} (b : Bool) (y z : A) (d : E) → cond b (Ok y) (Err d) ≡ Ok z → (b ≡ true) × (y ≡ z)
 cond-ok true y z d e = (refl, cc)
 cond-ok false y z d e = let no-way : _≡_ {A = ℕ} 0 1 = cc in absurd (omega arith)
 
-cond-err : {A E : Type 0} (b : Bool) (x : Result A E) (z : A) (d : E) → cond b (Err d) x ≡ Ok z → (b ≡ false) × (x ≡ Ok z)
+pub cond-err : {A E : Type 0} (b : Bool) (x : Result A E) (z : A) (d : E) → cond b (Err d) x ≡ Ok z → (b ≡ false) × (x ≡ Ok z)
 cond-err true x z d e = let no-way : _≡_ {A = ℕ} 0 1 = cc in absurd (omega arith)
 cond-err false x z d e = (refl, e)
 

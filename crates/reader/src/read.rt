@@ -1,6 +1,6 @@
 ghost use mathlib.Core.Path.{_≡_};
 ghost use Rattle.reader.specs.Formats.{with-place, read-end, read-outline, outline-of};
-ghost use Rattle.reader.specs.Reads.{Reads};
+ghost use Rattle.reader.specs.Reads.{Reads, Accepts};
 use crate::conditions;
 use crate::cursor::Reader;
 use crate::tables::Part;
@@ -52,7 +52,8 @@ fn outline(bytes: &[u8]) -> Result<Outline, Fault>
 // The book that the bytes of a file say, or the first fault: fields from front to back, then the conditions on the whole
 // book, number by number.
 pub fn read(bytes: &[u8]) -> Result<Book, Fault>
-    ensures { λ r. ⌜ Reads (now (bytes .entry)) r ⌝ }
+    ensures reads { λ r. ⌜ Reads (now (bytes .entry)) r ⌝ }
+    ensures accepts { λ r. ⌜ Accepts (now (bytes .entry)) r ⌝ }
 {
     let outline = outline(bytes)?;
     if let Some(a) = conditions::adds_and_deletes(&outline) {

@@ -1,5 +1,6 @@
 // Reads books that are written in hexadecimal, one on a line of standard input, and says what the reader makes of each:
-// `ok` with the numbers of facts, actions, groups and bars, or `no` with the fault's number, its record and its first byte.
+// `ok` with the numbers of facts, actions, groups and bars, and whether the book is written back as the same bytes and a
+// buffer that is too short is left alone; or `no` with the fault's number, its record and its first byte.
 use book::book::Book;
 use faults::Fault;
 use faults::Record;
@@ -7,6 +8,13 @@ use reader::read::read;
 use std::alloc::AllocError;
 use std::alloc::Global;
 use std::io;
+use writer::sizes::file_length;
+use writer::write::write;
+
+// The most bytes that a book's file has, and what the buffers are filled with.
+const LONGEST: usize = 1813;
+
+const UNTOUCHED: u8 = 0xee;
 
 fn digit(b: u8) -> u8 {
     match b {
@@ -25,10 +33,34 @@ fn decoded(heap: Global, text: &str) -> Result<Vec<u8>, AllocError> {
     Ok(bytes)
 }
 
-fn show_book(rt: &LibcRuntime, book: &Book) -> io::Result<()> {
+// Whether the book is written back as the bytes that it was read from, and no byte past them.
+fn comes_back(book: &Book, bytes: &[u8]) -> bool {
+    let mut out = [UNTOUCHED; LONGEST + 1];
+    match write(book, &mut out) {
+        Ok(n) => n < LONGEST + 1 && &out[0..n] == bytes && out[n] == UNTOUCHED,
+        Err(_) => false,
+    }
+}
+
+// Whether a buffer one byte too short is refused by its number and left alone.
+fn leaves_short(book: &Book) -> bool {
+    let mut out = [UNTOUCHED; LONGEST];
+    let n = file_length(book);
+    if n == 0 || n > LONGEST {
+        return false;
+    }
+    match write(book, &mut out[0..n - 1]) {
+        Ok(_) => false,
+        Err(refusal) => refusal.number() == 31 && out == [UNTOUCHED; LONGEST],
+    }
+}
+
+fn show_book(rt: &LibcRuntime, book: &Book, bytes: &[u8]) -> io::Result<()> {
     let o = &book.outline;
     let (n, m, g, h) = (o.facts, o.action_count, o.group_count, o.bar_count);
-    println!(rt, "ok {n} {m} {g} {h}")
+    let back = comes_back(book, bytes);
+    let short = leaves_short(book);
+    println!(rt, "ok {n} {m} {g} {h} back {back} short {short}")
 }
 
 fn show_record(rt: &LibcRuntime, record: Record) -> io::Result<()> {
@@ -53,8 +85,9 @@ fn show_fault(rt: &LibcRuntime, fault: Fault) -> io::Result<()> {
 fn main(rt: LibcRuntime) -> io::Result<()> {
     for line in rt.lines(rt.alloc()) {
         let text = line?;
-        match read(decoded(rt.alloc(), text.as_str())?.as_slice()) {
-            Ok(book) => show_book(&rt, &book)?,
+        let bytes = decoded(rt.alloc(), text.as_str())?;
+        match read(bytes.as_slice()) {
+            Ok(book) => show_book(&rt, &book, bytes.as_slice())?,
             Err(fault) => show_fault(&rt, fault)?,
         }
     }
