@@ -16,6 +16,7 @@ use Rattle.model.specs.Distances.{Arc, Path-of, Distance}
 use Rattle.model.specs.Gaps.{Up-to, Far, Rule, A1, A2, B1, B2, B3, B4, By, Forbidden, Gap, Closer}
 use Rattle.model.specs.Spacing.{Law-of-gaps}
 use Rattle.model.proofs.Moves.{Some-of, in-next, comes-in, moved, leaves}
+use Rattle.model.proofs.States.{state-after}
 
 up-to-down : (r : Option ℕ) (less d e : ℕ) → e ≤ d → Up-to r less d → Up-to r less e
 up-to-down (Some r) less d e le near = omega arith
@@ -40,11 +41,7 @@ module _ (b : Task) (ok : Lawful b) where
   -- the round at t, and the state after it
   pub round-at : (state : ℕ) (plan : List ℕ) (t : ℕ) → Run b state plan → t < length plan → Round b (state-at b state plan t) (getD plan t 0) × (state-at b state plan (suc t) ≡ next b (state-at b state plan t) (getD plan t 0))
   round-at state [] t run lt = absurd (omega arith)
-  round-at state (r ∷ rs) zero run lt = (run .0, start (next b state r) rs)
-    where
-      start : (s : ℕ) (p : List ℕ) → state-at b s p zero ≡ s
-      start s [] = refl
-      start s (q ∷ p) = refl
+  round-at state (r ∷ rs) zero run lt = (run .0, state-after b state (r ∷ rs) zero lt)
   round-at state (r ∷ rs) (suc t) run lt = round-at (next b state r) rs t (run .1) (omega arith)
 
   pub grouped-at : (state : ℕ) (plan : List ℕ) (t : ℕ) → One-of-each b state → Run b state plan → One-of-each b (state-at b state plan t)

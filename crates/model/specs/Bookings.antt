@@ -7,6 +7,8 @@ use Rattle.std.specs.declared.option.Option.{Option}
 use Rattle.std.specs.declared.option.Option.the-variants.{Some, None}
 use Rattle.sets.specs.Sets.{In}
 use Rattle.model.specs.declared.Booking.{Booking}
+use Rattle.model.specs.Tasks.{Task}
+use Rattle.model.specs.Plans.{Valid}
 use Rattle.model.specs.Ledgers.{Ledger, slot, Holds-at, Among}
 
 -- each action is at most 63, and each round below the card's number of rounds
@@ -36,3 +38,11 @@ Booked-for xs t r = (a : ℕ) → (In a r → Among (slot a t) xs) × (Among (sl
 -- every booking of the first list is in the second
 abbrev pub All-of : List Booking → List Booking → Type 0
 All-of xs ys = (x : Booking) → Among x xs → Among x ys
+
+-- the plan holds each of the bookings: its action is in its round
+abbrev pub Holds-all : List Booking → List ℕ → Type 0
+Holds-all bookings plan = (x : Booking) → Among x bookings → In (x .action) (getD plan (x .round) 0)
+
+-- a valid plan of the card's rounds that holds its bookings
+abbrev pub Serves : Ledger → Task → List ℕ → Type 0
+Serves l b plan = (length plan ≡ l .rounds) × Valid b plan × Holds-all (l .bookings) plan

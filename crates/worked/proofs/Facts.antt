@@ -14,6 +14,7 @@ use Rattle.londex.proofs.Rules.{Ruled, gap-same, gap-other}
 use Rattle.worked.specs.Sample.{sample, Worked}
 use Rattle.worked.proofs.Layers.{far, far-is}
 use Rattle.worked.proofs.Spans.{bound, bound-covers}
+use Rattle.worked.proofs.Strips.{plan-valid, strip-barred}
 
 small : (g : ℕ) → g < length (sample .groups) → group sample g < 2 ^ 64
 small zero h = lit< tt
@@ -37,4 +38,6 @@ worked = record {
   open-calibrate = gap-other sample 0 6 (Some 2) (λ e. omega arith) (covers 0 6 (Some 2) refl);
   open-open = gap-same sample 0 0 (Some 2) (Some 2) refl (λ e. absurd (omega arith), λ _. refl) (covers 0 0 (Some 2) refl);
   calibrate-twice = gap-same sample 6 6 (Some 0) (Some 0) refl (λ e. refl, λ _. refl) (covers 6 6 (Some 0) refl);
+  plan = plan-valid;
+  barred = strip-barred;
 }

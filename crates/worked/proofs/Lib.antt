@@ -1,4 +1,5 @@
 pub mod Unions
 pub mod Layers
 pub mod Spans
+pub mod Strips
 pub mod Facts

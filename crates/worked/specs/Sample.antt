@@ -2,10 +2,15 @@
 use mathlib.Core.List.{List, [], _∷_}
 use Prim.Native.Nat.{ℕ}
 use Rattle.std.specs.declared.option.Option.the-variants.{Some, None}
+use Rattle.std.specs.declared.result.Result.the-variants.{Err}
 use Rattle.model.specs.declared.Action.{Action}
 use Rattle.model.specs.Tasks.{Task}
 use Rattle.model.specs.Distances.{Distance}
 use Rattle.model.specs.Gaps.{Gap}
+use Rattle.model.specs.Plans.{Valid}
+use Rattle.model.specs.Ledgers.{Ledger}
+use Rattle.check.specs.declared.flaws.Flaw.the-variants.{BarAfter}
+use Rattle.check.specs.Flaws.{Checks}
 
 abbrev pub doing : ℕ → ℕ → ℕ → Action
 doing needs adds deletes = record { needs = needs; adds = adds; deletes = deletes }
@@ -21,7 +26,11 @@ sample = record {
   goal = 145;
 }
 
--- three distances in its groups, and five gaps
+-- a card of five rounds without bookings
+abbrev pub five-rounds : Ledger
+five-rounds = record { rounds = 5; bookings = [] }
+
+-- three distances in its groups, five gaps, a plan, and a strip that has the loader and the antenna off together after round 1
 pub record Worked : Type 0 where
   pub opens : Distance sample 0 0 1 (Some 1)
   pub loads : Distance sample 1 2 4 (Some 2)
@@ -31,3 +40,5 @@ pub record Worked : Type 0 where
   pub open-calibrate : Gap sample 0 6 (Some 2)
   pub open-open : Gap sample 0 0 (Some 2)
   pub calibrate-twice : Gap sample 6 6 (Some 0)
+  pub plan : Valid sample (1 ∷ 4 ∷ 8 ∷ 2 ∷ 64 ∷ [])
+  pub barred : Checks sample five-rounds (1 ∷ 20 ∷ 8 ∷ 2 ∷ 64 ∷ []) (Err (BarAfter 1 0))

@@ -1,0 +1,4 @@
+pub mod Firsts
+pub mod Joins
+pub mod Tables
+pub mod Nodes
