@@ -44,7 +44,7 @@ pub fn unmet_need(book: &Book, state: u64, round: u64) -> Option<u8>
     None
 }
 
-// The lowest action of the round above a that a disturbs.
+// The lowest action above a in the round such that one of the two disturbs the other.
 fn partner(book: &Book, round: u64, a: u8) -> Option<u8>
     requires { ⌜ a < now book .outline .«action_count» ⌝ }
     ensures { λ r. ⌜ Lowest r (λ c. (a < c) × In c round × Disturb (action (task (now (book .entry) .outline)) a) (action (task (now (book .entry) .outline)) c)) ⌝ }

@@ -1,10 +1,10 @@
 -- A lawful book is read back from the bytes that write it, so a file is accepted exactly where some book is written as it.
-use mathlib.Core.Path.{_≡_, refl, sym, subst, _∙_}
+use mathlib.Core.Path.{_≡_, sym, subst, _∙_}
 use mathlib.Core.List.{List}
 use mathlib.Core.Logic.{⊎-elim}
 use Prim.Native.Nat.{ℕ, _<_}
 use native.Mathlib.Omega.{arith}
-use lib.ListN.{length, getD}
+use lib.ListN.{getD}
 use Rattle.std.specs.declared.result.Result.{Result}
 use Rattle.std.specs.declared.result.Result.the-variants.{Ok, Err}
 use Rattle.model.specs.declared.Action.{Action}
@@ -12,7 +12,7 @@ use Rattle.model.specs.Tasks.{Task, Lawful, idle}
 use Rattle.model.proofs.Laws.{lawful-from}
 use Rattle.faults.specs.declared.Fault.{Fault}
 use Rattle.faults.specs.declared.Fault.the-variants.{Field, BytesLeft, AddsAndDeletes, SharedGroup, NotOneAtStart, BrokenGroup, BarAtStart}
-use Rattle.faults.specs.Faults.{Breaks, First-broken}
+use Rattle.faults.specs.Faults.{Breaks}
 use Rattle.book.specs.declared.book.Book.{Book}
 use Rattle.book.specs.declared.outline.Outline.{Outline}
 use Rattle.book.specs.Views.{task, Counted, Wide, Padded}

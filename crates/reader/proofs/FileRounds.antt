@@ -1,27 +1,26 @@
 -- The two laws of the format: what is written is read as the same book, and what was read is written as the same bytes.
 use mathlib.Core.Path.{_≡_, refl, sym, ap, subst, _∙_}
 use mathlib.Core.List.{List, [], _∷_, _++_}
-use mathlib.Core.Logic.{⊎-elim}
-use Prim.Native.Nat.{ℕ, _+_, _≤_, _<_, _^_}
+use Prim.Native.Nat.{ℕ, _+_, _≤_, _<_}
 use native.Mathlib.Omega.{arith}
 use lib.Dec.{ltb}
-use lib.ListN.{length, getD, drop}
+use lib.ListN.{length, getD}
 use Rattle.std.proofs.shelf.Lists.{append-nil, drop-all}
 use Rattle.std.proofs.shelf.Tests.{ltb-false, le-ltb}
 use Rattle.std.specs.Joined.{joined}
 use Rattle.std.specs.Results.{mapped}
 use Rattle.std.specs.declared.result.Result.{Result}
 use Rattle.std.specs.declared.result.Result.the-variants.{Ok, Err}
-use Rattle.model.specs.Tasks.{Task, Lawful, Has, idle, action, group, bar}
+use Rattle.model.specs.Tasks.{idle}
 use Rattle.faults.specs.declared.Record.the-variants.{Head, Action as InAction}
 use Rattle.faults.specs.declared.Fault.{Fault}
 use Rattle.faults.specs.declared.Fault.the-variants.{Field, BytesLeft}
 use Rattle.book.specs.declared.outline.Outline.{Outline}
-use Rattle.book.specs.Views.{task, Counted, Wide, Padded}
+use Rattle.book.specs.Views.{task}
 use Rattle.reader.specs.declared.tables.Part.the-variants.{Groups, Bars}
 use Rattle.reader.specs.Formats.{Read, read-counts, read-ends, read-action, read-set, read-table, part-record, read-end, read-outline, outline-of}
 use Rattle.reader.specs.Written.{set-bytes, ends-bytes, action-bytes, counts-bytes, written}
-use Rattle.reader.proofs.Ranges.{follow-ok, same-ok, cond-err, Known, Known-action}
+use Rattle.reader.proofs.Ranges.{follow-by, same-ok, cond-err, Known, Known-action}
 use Rattle.reader.proofs.Outlines.{Tidy}
 use Rattle.reader.proofs.Spans.{Spans, spans-append, spans-split, spans-all}
 use Rattle.reader.proofs.Rounds.{set-read, set-spans}
@@ -60,23 +59,22 @@ end-stops bs p q u e =
 outline-spans : (bs : List ℕ) → ((i : ℕ) → getD bs i 0 < 256) → (p q : ℕ) (o : Outline) → read-outline bs p ≡ Ok (o, q) → Spans bs p (written o) q × (length bs ≤ q)
 unfolding written
 outline-spans bs low p q o e =
-    let n = follow-ok (Field Head) (read-counts bs p) _ (o, q) e in
-    let facts = n .0 .facts in
-    let x = follow-ok (Field Head) (read-ends facts bs (n .1)) _ (o, q) (n .3) in
-    let a = follow-ok (λ e. e) (read-table 64 idle (read-action facts) InAction (n .0 .actions) bs (x .1)) _ (o, q) (x .3) in
-    let g = follow-ok (λ e. e) (read-table 16 0 (read-set facts) (part-record Groups) (n .0 .groups) bs (a .1)) _ (o, q) (a .3) in
-    let h = follow-ok (λ e. e) (read-table 8 0 (read-set facts) (part-record Bars) (n .0 .bars) bs (g .1)) _ (o, q) (g .3) in
-    let z = follow-ok (λ e. e) (read-end bs (h .1)) _ (o, q) (h .3) in
-    let done = end-stops bs (h .1) (z .1) (z .0) (z .2) in
+    follow-by (Field Head) (read-counts bs p) _ (o, q) e λ n p₁ n-read then-x.
+    follow-by (Field Head) (read-ends (n .facts) bs p₁) _ (o, q) then-x λ x p₂ x-read then-a.
+    follow-by (λ e. e) (read-table 64 idle (read-action (n .facts)) InAction (n .actions) bs p₂) _ (o, q) then-a λ a p₃ a-read then-g.
+    follow-by (λ e. e) (read-table 16 0 (read-set (n .facts)) (part-record Groups) (n .groups) bs p₃) _ (o, q) then-g λ g p₄ g-read then-h.
+    follow-by (λ e. e) (read-table 8 0 (read-set (n .facts)) (part-record Bars) (n .bars) bs p₄) _ (o, q) then-h λ h p₅ h-read then-z.
+    follow-by (λ e. e) (read-end bs p₅) _ (o, q) then-z λ z p₆ z-read done.
+    let stop = end-stops bs p₅ p₆ z z-read in
+    let actions = table-spans (read-action (n .facts)) InAction action-bytes bs (action-spans bs low (n .facts)) 64 idle (n .actions) p₂ p₃ a a-read in
+    let groups = table-spans (read-set (n .facts)) (part-record Groups) set-bytes bs (set-spans bs low (n .facts)) 16 0 (n .groups) p₃ p₄ g g-read in
+    let bars = table-spans (read-set (n .facts)) (part-record Bars) set-bytes bs (set-spans bs low (n .facts)) 8 0 (n .bars) p₄ p₅ h h-read in
     let Taken : Outline × ℕ → Type 0 = λ y. Spans bs p (written (y .0)) (y .1) × (length bs ≤ y .1) in
-    let bars = table-spans (read-set facts) (part-record Bars) set-bytes bs (λ p q s k. set-spans bs low facts p q s k .0) 8 0 (n .0 .bars) (g .1) (h .1) (h .0) (h .2) in
-    subst Taken (same-ok _ (o, q) (z .3)) (
-      spans-append bs p (n .1) (z .1) (n .0 .facts ∷ n .0 .actions ∷ n .0 .groups ∷ n .0 .bars ∷ []) _ (counts-spans bs p (n .1) (n .0) (n .2))
-          (spans-append bs (n .1) (x .1) (z .1) (ends-bytes (x .0 .initial) (x .0 .goal)) _ (ends-spans bs low facts (n .1) (x .1) (x .0) (x .2))
-          (spans-append bs (x .1) (a .1) (z .1) _ _ (table-spans (read-action facts) InAction action-bytes bs (action-spans bs low facts) 64 idle (n .0 .actions) (x .1) (a .1) (a .0) (a .2))
-          (spans-append bs (a .1) (g .1) (z .1) _ _ (table-spans (read-set facts) (part-record Groups) set-bytes bs (λ p q s k. set-spans bs low facts p q s k .0) 16 0 (n .0 .groups) (a .1) (g .1) (g .0) (g .2))
-          (rw (done .0) at bars)))),
-      done .1,
+    subst Taken (same-ok _ (o, q) done) (
+      spans-append bs p p₁ p₆ (n .facts ∷ n .actions ∷ n .groups ∷ n .bars ∷ []) _ (counts-spans bs p p₁ n n-read)
+          (spans-append bs p₁ p₂ p₆ (ends-bytes (x .initial) (x .goal)) _ (ends-spans bs low (n .facts) p₁ p₂ x x-read)
+          (spans-append bs p₂ p₃ p₆ _ _ actions (spans-append bs p₃ p₄ p₆ _ _ groups (rw (stop .0) at bars)))),
+      stop .1,
     )
 
 -- what is written is read as the same outline

@@ -31,6 +31,11 @@ pub follow-ok : {A B E F : Type 0} (wrap : E → F) (r : Read A E) (rest : A →
 follow-ok wrap (Ok (x, p)) rest z e = (x, p, refl, e)
 follow-ok wrap (Err d) rest z e = let no-way : _≡_ {A = ℕ} 0 1 = cc in absurd (omega arith)
 
+-- the same for a goal, with the value and its place as names
+pub follow-by : {A B E F P : Type 0} (wrap : E → F) (r : Read A E) (rest : A → ℕ → Read B F) (z : B × ℕ) → follow wrap r rest ≡ Ok z
+    → ((x : A) (p : ℕ) → r ≡ Ok (x, p) → rest x p ≡ Ok z → P) → P
+follow-by wrap r rest z e go = let f = follow-ok wrap r rest z e in go (f .0) (f .1) (f .2) (f .3)
+
 pub same-ok : {A E : Type 0} (x y : A) → _≡_ {A = Result A E} (Ok x) (Ok y) → x ≡ y
 same-ok x y e = cc
 

@@ -2,25 +2,24 @@
 use mathlib.Core.Path.{_≡_, refl, sym, ap, subst, _∙_}
 use mathlib.Core.Bool.{Bool, true, false, cond, not}
 use mathlib.Core.List.{List, [], _∷_, _++_}
-use Prim.Native.Nat.{ℕ, zero, suc, _+_, _*_, _-_, _/_, _%_, _^_, _≤_, _<_}
+use Prim.Native.Nat.{ℕ, zero, suc, _+_, _*_, _-_, _/_, _%_, _≤_, _<_}
 use native.Mathlib.Nat.{zero-mul, one-mul}
 use native.Mathlib.Omega.{arith}
 use lib.Dec.{eqb, lit<}
 use lib.ListN.{length, getD, take, drop, replicate}
 use Rattle.std.proofs.shelf.Lists.{length-drop, length-replicate, length-take-le, getD-drop, getD-take, getD-default, getD-replicate, take-append-drop, take-at, same-lists}
 use Rattle.std.specs.Joined.{joined}
-use Rattle.std.specs.declared.result.Result.the-variants.{Ok, Err}
+use Rattle.std.specs.declared.result.Result.the-variants.{Ok}
 use Rattle.model.specs.declared.Action.{Action}
 use Rattle.faults.specs.declared.Record.{Record}
 use Rattle.faults.specs.declared.FieldFault.{FieldFault}
-use Rattle.faults.specs.declared.Fault.{Fault}
 use Rattle.faults.specs.declared.Fault.the-variants.{Field}
 use Rattle.reader.specs.declared.records.Counts.{Counts}
 use Rattle.reader.specs.declared.records.Ends.{Ends}
-use Rattle.reader.specs.Formats.{Read, follow, then, read-count, read-map, read-optional, read-counts, read-ends, read-action, read-many, filled-up, read-table}
+use Rattle.reader.specs.Formats.{Read, read-count, read-map, read-optional, read-counts, read-ends, read-action, read-many, filled-up, read-table}
 use Rattle.reader.specs.Written.{field-bytes, bit, ends-bytes, action-bytes}
-use Rattle.reader.proofs.Turns.{same-value, many-length}
-use Rattle.reader.proofs.Ranges.{follow-ok, same-ok, Limited, Known-ends, Known-action, Tabled}
+use Rattle.reader.proofs.Turns.{many-length}
+use Rattle.reader.proofs.Ranges.{follow-ok, follow-by, same-ok, Limited, Known-ends, Known-action, Tabled}
 use Rattle.reader.proofs.Spans.{Spans, spans-none, spans-append, spans-split}
 use Rattle.reader.proofs.Rounds.{count-read, count-spans, map-read, map-spans, optional-read, optional-spans}
 
@@ -64,16 +63,15 @@ module _ (bs : List ℕ) where
 
   pub counts-spans : (p q : ℕ) (n : Counts) → read-counts bs p ≡ Ok (n, q) → Spans bs p (n .facts ∷ n .actions ∷ n .groups ∷ n .bars ∷ []) q
   counts-spans p q n e =
-      let f = follow-ok (λ e. e) (read-count 1 64 bs p) _ (n, q) e in
-      let a = follow-ok (λ e. e) (read-count 0 64 bs (f .1)) _ (n, q) (f .3) in
-      let g = follow-ok (λ e. e) (read-count 0 16 bs (a .1)) _ (n, q) (a .3) in
-      let h = follow-ok (λ e. e) (read-count 0 8 bs (g .1)) _ (n, q) (g .3) in
+      follow-by (λ e. e) (read-count 1 64 bs p) _ (n, q) e λ f p₁ f-read then-a.
+      follow-by (λ e. e) (read-count 0 64 bs p₁) _ (n, q) then-a λ a p₂ a-read then-g.
+      follow-by (λ e. e) (read-count 0 16 bs p₂) _ (n, q) then-g λ g p₃ g-read then-h.
+      follow-by (λ e. e) (read-count 0 8 bs p₃) _ (n, q) then-h λ h p₄ h-read done.
       let Taken : Counts × ℕ → Type 0 = λ x. Spans bs p (x .0 .facts ∷ x .0 .actions ∷ x .0 .groups ∷ x .0 .bars ∷ []) (x .1) in
-      let same : _≡_ {A = Counts × ℕ} (record { facts = f .0; actions = a .0; groups = g .0; bars = h .0 }, h .1) (n, q) = same-ok _ _ (h .3) in
-      subst Taken same
-      (spans-append bs p (f .1) (h .1) (f .0 ∷ []) _ (count-spans bs 1 64 p (f .1) (f .0) (f .2))
-      (spans-append bs (f .1) (a .1) (h .1) (a .0 ∷ []) _ (count-spans bs 0 64 (f .1) (a .1) (a .0) (a .2))
-      (spans-append bs (a .1) (g .1) (h .1) (g .0 ∷ []) (h .0 ∷ []) (count-spans bs 0 16 (a .1) (g .1) (g .0) (g .2)) (count-spans bs 0 8 (g .1) (h .1) (h .0) (h .2)))))
+      subst Taken (same-ok (record { facts = f; actions = a; groups = g; bars = h }, p₄) (n, q) done)
+      (spans-append bs p p₁ p₄ (f ∷ []) (a ∷ g ∷ h ∷ []) (count-spans bs 1 64 p p₁ f f-read)
+      (spans-append bs p₁ p₂ p₄ (a ∷ []) (g ∷ h ∷ []) (count-spans bs 0 64 p₁ p₂ a a-read)
+      (spans-append bs p₂ p₃ p₄ (g ∷ []) (h ∷ []) (count-spans bs 0 16 p₂ p₃ g g-read) (count-spans bs 0 8 p₃ p₄ h h-read))))
 
   module _ (facts : ℕ) (few : facts ≤ 64) where
     pub ends-read : (p q : ℕ) (x : Ends) → Known-ends facts x → Spans bs p (ends-bytes (x .initial) (x .goal)) q → read-ends facts bs p ≡ Ok (x, q)
@@ -114,51 +112,39 @@ module _ (bs : List ℕ) where
     pub ends-spans : (facts p q : ℕ) (x : Ends) → read-ends facts bs p ≡ Ok (x, q) → Spans bs p (ends-bytes (x .initial) (x .goal)) q
     unfolding ends-bytes
     ends-spans facts p q x e =
-        let f = follow-ok (λ e. e) (read-map 4 bs p) _ (x, q) e in
-        let i = follow-ok (λ e. e) (read-optional (eqb (f .0 % 2) 1) facts bs (f .1)) _ (x, q) (f .3) in
-        let g = follow-ok (λ e. e) (read-optional (eqb (f .0 / 2) 1) facts bs (i .1)) _ (x, q) (i .3) in
-        let same : _≡_ {A = Ends × ℕ} (record { initial = i .0; goal = g .0 }, g .1) (x, q) = same-ok _ _ (g .3) in
+        follow-by (λ e. e) (read-map 4 bs p) _ (x, q) e λ m p₁ m-read then-i.
+        follow-by (λ e. e) (read-optional (eqb (m % 2) 1) facts bs p₁) _ (x, q) then-i λ initial p₂ i-read then-g.
+        follow-by (λ e. e) (read-optional (eqb (m / 2) 1) facts bs p₂) _ (x, q) then-g λ goal p₃ g-read done.
+        let map = map-spans bs 4 p p₁ m m-read in
+        let limit = map .1 in
+        let i = optional-spans bs low (eqb (m % 2) 1) facts p₁ p₂ initial i-read in
+        let g = optional-spans bs low (eqb (m / 2) 1) facts p₂ p₃ goal g-read in
+        let is : m ≡ bit 1 initial + bit 2 goal =
+        omega (arith, bit-is 1 initial (m % 2) (omega arith) (i .1), bit-is 2 goal (m / 2) (omega arith) (g .1)) in
         let Taken : Ends × ℕ → Type 0 = λ y. Spans bs p (ends-bytes (y .0 .initial) (y .0 .goal)) (y .1) in
-        subst Taken same (go (f .0) (i .0) (g .0) (f .1) (i .1) (g .1) (map-spans bs 4 p (f .1) (f .0) (f .2))
-        (optional-spans bs low (eqb (f .0 % 2) 1) facts (f .1) (i .1) (i .0) (i .2)) (optional-spans bs low (eqb (f .0 / 2) 1) facts (i .1) (g .1) (g .0) (g .2)))
-      where
-        go : (m initial goal p₁ p₂ p₃ : ℕ) → Spans bs p (m ∷ []) p₁ × (m < 4)
-            → Spans bs p₁ (field-bytes initial) p₂ × (eqb initial 0 ≡ not (eqb (m % 2) 1))
-            → Spans bs p₂ (field-bytes goal) p₃ × (eqb goal 0 ≡ not (eqb (m / 2) 1))
-            → Spans bs p (ends-bytes initial goal) p₃
-        go m initial goal p₁ p₂ p₃ map i g =
-            let limit = map .1 in
-            let is : m ≡ bit 1 initial + bit 2 goal =
-            omega (arith, bit-is 1 initial (m % 2) (omega arith) (i .1), bit-is 2 goal (m / 2) (omega arith) (g .1)) in
-            spans-append bs p p₁ p₃ (_ ∷ []) _ (subst (λ (b : ℕ). Spans bs p (b ∷ []) p₁) is (map .0))
-            (spans-append bs p₁ p₂ p₃ (field-bytes initial) (field-bytes goal) (i .0) (g .0))
+        subst Taken (same-ok (record { initial = initial; goal = goal }, p₃) (x, q) done)
+        (spans-append bs p p₁ p₃ (_ ∷ []) _ (subst (λ (b : ℕ). Spans bs p (b ∷ []) p₁) is (map .0))
+        (spans-append bs p₁ p₂ p₃ (field-bytes initial) (field-bytes goal) (i .0) (g .0)))
 
     pub action-spans : (facts p q : ℕ) (a : Action) → read-action facts bs p ≡ Ok (a, q) → Spans bs p (action-bytes a) q
     unfolding action-bytes
     action-spans facts p q a e =
-        let f = follow-ok (λ e. e) (read-map 8 bs p) _ (a, q) e in
-        let n = follow-ok (λ e. e) (read-optional (eqb (f .0 % 2) 1) facts bs (f .1)) _ (a, q) (f .3) in
-        let d = follow-ok (λ e. e) (read-optional (eqb (f .0 / 2 % 2) 1) facts bs (n .1)) _ (a, q) (n .3) in
-        let x = follow-ok (λ e. e) (read-optional (eqb (f .0 / 4) 1) facts bs (d .1)) _ (a, q) (d .3) in
-        let same : _≡_ {A = Action × ℕ} (record { needs = n .0; adds = d .0; deletes = x .0 }, x .1) (a, q) = same-ok _ _ (x .3) in
+        follow-by (λ e. e) (read-map 8 bs p) _ (a, q) e λ m p₁ m-read then-n.
+        follow-by (λ e. e) (read-optional (eqb (m % 2) 1) facts bs p₁) _ (a, q) then-n λ needs p₂ n-read then-d.
+        follow-by (λ e. e) (read-optional (eqb (m / 2 % 2) 1) facts bs p₂) _ (a, q) then-d λ adds p₃ d-read then-x.
+        follow-by (λ e. e) (read-optional (eqb (m / 4) 1) facts bs p₃) _ (a, q) then-x λ deletes p₄ x-read done.
+        let map = map-spans bs 8 p p₁ m m-read in
+        let limit = map .1 in
+        let n = optional-spans bs low (eqb (m % 2) 1) facts p₁ p₂ needs n-read in
+        let d = optional-spans bs low (eqb (m / 2 % 2) 1) facts p₂ p₃ adds d-read in
+        let x = optional-spans bs low (eqb (m / 4) 1) facts p₃ p₄ deletes x-read in
+        let is : m ≡ bit 1 needs + bit 2 adds + bit 4 deletes =
+        omega (arith, bit-is 1 needs (m % 2) (omega arith) (n .1), bit-is 2 adds (m / 2 % 2) (omega arith) (d .1), bit-is 4 deletes (m / 4) (omega arith) (x .1)) in
         let Taken : Action × ℕ → Type 0 = λ y. Spans bs p (action-bytes (y .0)) (y .1) in
-        subst Taken same (go (f .0) (n .0) (d .0) (x .0) (f .1) (n .1) (d .1) (x .1) (map-spans bs 8 p (f .1) (f .0) (f .2))
-        (optional-spans bs low (eqb (f .0 % 2) 1) facts (f .1) (n .1) (n .0) (n .2))
-        (optional-spans bs low (eqb (f .0 / 2 % 2) 1) facts (n .1) (d .1) (d .0) (d .2))
-        (optional-spans bs low (eqb (f .0 / 4) 1) facts (d .1) (x .1) (x .0) (x .2)))
-      where
-        go : (m needs adds deletes p₁ p₂ p₃ p₄ : ℕ) → Spans bs p (m ∷ []) p₁ × (m < 8)
-            → Spans bs p₁ (field-bytes needs) p₂ × (eqb needs 0 ≡ not (eqb (m % 2) 1))
-            → Spans bs p₂ (field-bytes adds) p₃ × (eqb adds 0 ≡ not (eqb (m / 2 % 2) 1))
-            → Spans bs p₃ (field-bytes deletes) p₄ × (eqb deletes 0 ≡ not (eqb (m / 4) 1))
-            → Spans bs p (action-bytes (record { needs = needs; adds = adds; deletes = deletes })) p₄
-        go m needs adds deletes p₁ p₂ p₃ p₄ map n d x =
-            let limit = map .1 in
-            let is : m ≡ bit 1 needs + bit 2 adds + bit 4 deletes =
-            omega (arith, bit-is 1 needs (m % 2) (omega arith) (n .1), bit-is 2 adds (m / 2 % 2) (omega arith) (d .1), bit-is 4 deletes (m / 4) (omega arith) (x .1)) in
-            spans-append bs p p₁ p₄ (_ ∷ []) _ (subst (λ (b : ℕ). Spans bs p (b ∷ []) p₁) is (map .0))
-            (spans-append bs p₁ p₂ p₄ (field-bytes needs) _ (n .0)
-            (spans-append bs p₂ p₃ p₄ (field-bytes adds) (field-bytes deletes) (d .0) (x .0)))
+        subst Taken (same-ok (record { needs = needs; adds = adds; deletes = deletes }, p₄) (a, q) done)
+        (spans-append bs p p₁ p₄ (_ ∷ []) _ (subst (λ (b : ℕ). Spans bs p (b ∷ []) p₁) is (map .0))
+        (spans-append bs p₁ p₂ p₄ (field-bytes needs) _ (n .0)
+        (spans-append bs p₂ p₃ p₄ (field-bytes adds) (field-bytes deletes) (d .0) (x .0))))
 
 -- ---- tables
 

@@ -1,23 +1,22 @@
 -- The bytes of a field are read as its value; and where a value is read, its bytes stand.
 use mathlib.Core.Path.{_≡_, refl, sym, ap, subst, _∙_}
-use mathlib.Core.Bool.{Bool, true, false, cond, not, _&&_}
-use mathlib.Core.List.{List, [], _∷_, _++_}
+use mathlib.Core.Bool.{Bool, true, false, not, _&&_}
+use mathlib.Core.List.{List, [], _∷_}
 use mathlib.Core.Logic.{⊎-elim}
-use Prim.Native.Nat.{ℕ, zero, suc, _+_, _-_, _/_, _%_, _^_, _≤_, _<_}
+use Prim.Native.Nat.{ℕ, _+_, _^_, _≤_, _<_}
 use native.Mathlib.Nat.{add-zero}
 use native.Mathlib.Omega.{arith}
 use lib.Dec.{eqb, ltb, leb}
-use lib.ListN.{length, getD, drop}
+use lib.ListN.{length, getD}
 use lib.Pow.{pow-mono}
 use Rattle.std.proofs.shelf.Lists.{drop-more}
-use Rattle.std.proofs.shelf.Tests.{ltb-true, ltb-false, lt-ltb, le-leb, eqb-false, eq-eqb, ne-eqb, cases-eq}
-use Rattle.std.specs.declared.result.Result.the-variants.{Ok, Err}
-use Rattle.faults.specs.declared.FieldFault.{FieldFault}
+use Rattle.std.proofs.shelf.Tests.{ltb-true, ltb-false, lt-ltb, le-leb, eq-eqb, ne-eqb, cases-eq}
+use Rattle.std.specs.declared.result.Result.the-variants.{Ok}
 use Rattle.faults.specs.declared.FieldFault.the-variants.{CutShort, OutOfLimits, UnknownBit, EmptySet, UnknownFact}
-use Rattle.reader.specs.Formats.{Read, follow, then, word, read-byte, read-count, read-map, read-set, read-optional}
-use Rattle.reader.specs.Written.{set-bytes, field-bytes, bit}
+use Rattle.reader.specs.Formats.{word, read-byte, read-count, read-map, read-set, read-optional}
+use Rattle.reader.specs.Written.{set-bytes, field-bytes}
 use Rattle.reader.proofs.Widths.{set-known}
-use Rattle.reader.proofs.Ranges.{follow-ok, same-ok, cond-ok, cond-err, Known}
+use Rattle.reader.proofs.Ranges.{follow-ok, same-ok, cond-ok, cond-err, Known, set-range}
 use Rattle.reader.proofs.Spans.{Spans, spans-none, spans-at, spans-within, word-spans, spans-word}
 
 module _ (bs : List ℕ) where
@@ -75,19 +74,19 @@ module _ (bs : List ℕ) where
         some n = rw (ne-eqb s 0 n) (set-read p q s (omega arith, low) (rw (ne-eqb s 0 n) at w))
 
   module _ (low : (i : ℕ) → getD bs i 0 < 256) where
-    pub set-spans : (facts p q s : ℕ) → read-set facts bs p ≡ Ok (s, q) → Spans bs p (set-bytes s) q × (s ≡ 0 → ⊥)
+    pub set-spans : (facts p q s : ℕ) → read-set facts bs p ≡ Ok (s, q) → Spans bs p (set-bytes s) q
     set-spans facts p q s e =
         let long = cond-err (ltb (length bs) (p + 8)) _ (s, q) (CutShort p) e in
         let some = cond-err (eqb (word bs p) 0) _ (s, q) (EmptySet p) (long .1) in
         let known = cond-ok (ltb (word bs p) (2 ^ facts)) (word bs p, p + 8) (s, q) (UnknownFact p) (some .1) in
-        let Taken : ℕ × ℕ → Type 0 = λ x. Spans bs p (set-bytes (x .0)) (x .1) × (x .0 ≡ 0 → ⊥) in
-        subst Taken (known .1) (word-spans bs p (ltb-false (length bs) (p + 8) (long .0)) low, eqb-false (word bs p) 0 (some .0))
+        let Taken : ℕ × ℕ → Type 0 = λ x. Spans bs p (set-bytes (x .0)) (x .1) in
+        subst Taken (known .1) (word-spans bs p (ltb-false (length bs) (p + 8) (long .0)) low)
 
     pub optional-spans : (stands : Bool) (facts p q s : ℕ) → read-optional stands facts bs p ≡ Ok (s, q) → Spans bs p (field-bytes s) q × (eqb s 0 ≡ not stands)
     optional-spans true facts p q s e =
-        let w = set-spans facts p q s e in
-        let some = ne-eqb s 0 (w .1) in
-        (rw some (w .0), some)
+        let known = set-range facts bs p s q e in
+        let some = ne-eqb s 0 (λ z. omega (arith, known .0)) in
+        (rw some (set-spans facts p q s e), some)
     optional-spans false facts p q s e =
         let same : _≡_ {A = ℕ × ℕ} (0, p) (s, q) = same-ok _ _ e in
         let Taken : ℕ × ℕ → Type 0 = λ x. Spans bs p (field-bytes (x .0)) (x .1) × (eqb (x .0) 0 ≡ true) in

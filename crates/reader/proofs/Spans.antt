@@ -1,7 +1,7 @@
 -- Bytes that stand at a place of a file.
 use mathlib.Core.Path.{_≡_, refl, sym, ap, _∙_}
 use mathlib.Core.List.{List, [], _∷_, _++_}
-use Prim.Native.Nat.{ℕ, _+_, _*_, _-_, _/_, _%_, _^_, _≤_, _<_}
+use Prim.Native.Nat.{ℕ, _+_, _*_, _/_, _%_, _^_, _≤_, _<_}
 use native.Mathlib.Nat.{add-assoc, add-zero}
 use native.Mathlib.Omega.{arith}
 use lib.ListN.{length, getD, drop}
@@ -70,13 +70,13 @@ module _ (bs : List ℕ) (p : ℕ) (whole : p + 8 ≤ length bs) where
       digits a b c d e f g h la lb lc ld le lf lg lh l =
           let s = a + b * 2 ^ 8 + c * 2 ^ 16 + d * 2 ^ 24 + e * 2 ^ 32 + f * 2 ^ 40 + g * 2 ^ 48 + h * 2 ^ 56 in
           let e0 : s % 256 ≡ a = omega arith in
-          let e1 = digit 8 (a) b (c + d * 2 ^ 8 + e * 2 ^ 16 + f * 2 ^ 24 + g * 2 ^ 32 + h * 2 ^ 40) s (omega arith) lb (omega arith) in
+          let e1 = digit 8 a b (c + d * 2 ^ 8 + e * 2 ^ 16 + f * 2 ^ 24 + g * 2 ^ 32 + h * 2 ^ 40) s (omega arith) lb (omega arith) in
           let e2 = digit 16 (a + b * 2 ^ 8) c (d + e * 2 ^ 8 + f * 2 ^ 16 + g * 2 ^ 24 + h * 2 ^ 32) s (omega arith) lc (omega arith) in
           let e3 = digit 24 (a + b * 2 ^ 8 + c * 2 ^ 16) d (e + f * 2 ^ 8 + g * 2 ^ 16 + h * 2 ^ 24) s (omega arith) ld (omega arith) in
           let e4 = digit 32 (a + b * 2 ^ 8 + c * 2 ^ 16 + d * 2 ^ 24) e (f + g * 2 ^ 8 + h * 2 ^ 16) s (omega arith) le (omega arith) in
           let e5 = digit 40 (a + b * 2 ^ 8 + c * 2 ^ 16 + d * 2 ^ 24 + e * 2 ^ 32) f (g + h * 2 ^ 8) s (omega arith) lf (omega arith) in
-          let e6 = digit 48 (a + b * 2 ^ 8 + c * 2 ^ 16 + d * 2 ^ 24 + e * 2 ^ 32 + f * 2 ^ 40) g (h) s (omega arith) lg (omega arith) in
-          let e7 = digit 56 (a + b * 2 ^ 8 + c * 2 ^ 16 + d * 2 ^ 24 + e * 2 ^ 32 + f * 2 ^ 40 + g * 2 ^ 48) h (0) s (omega arith) lh (omega arith) in
+          let e6 = digit 48 (a + b * 2 ^ 8 + c * 2 ^ 16 + d * 2 ^ 24 + e * 2 ^ 32 + f * 2 ^ 40) g h s (omega arith) lg (omega arith) in
+          let e7 = digit 56 (a + b * 2 ^ 8 + c * 2 ^ 16 + d * 2 ^ 24 + e * 2 ^ 32 + f * 2 ^ 40 + g * 2 ^ 48) h 0 s (omega arith) lh (omega arith) in
           rw (e0, e1, e2, e3, e4, e5, e6, e7)
 
 pub spans-word : (bs : List ℕ) (p q s : ℕ) → s < 2 ^ 64 → Spans bs p (set-bytes s) q → s ≡ word bs p

@@ -9,10 +9,11 @@ use Rattle.std.specs.Joined.{joined}
 use Rattle.std.proofs.shelf.Lists.{length-append, joined-more, take-more}
 use Rattle.std.proofs.shelf.Tests.{cases-eq, eq-eqb, ne-eqb}
 use Rattle.model.specs.declared.Action.{Action}
+use Rattle.book.specs.declared.book.Book.{Book}
 use Rattle.book.specs.declared.outline.Outline.{Outline}
-use Rattle.book.specs.Views.{task, Counted, Wide}
+use Rattle.book.specs.Views.{task}
 use Rattle.book.proofs.Fronts.{actions-are, groups-are, bars-are}
-use Rattle.reader.specs.Written.{set-bytes, field-bytes, ends-bytes, action-bytes, counts-bytes, written}
+use Rattle.reader.specs.Written.{set-bytes, field-bytes, ends-bytes, action-bytes, written}
 
 pub field-none : (s : ℕ) → s ≡ 0 → field-bytes s ≡ []
 field-none s z = rw (eq-eqb s 0 z)
@@ -66,11 +67,14 @@ pub written-parts : (o : Outline) → length (written o)
 unfolding written
 written-parts o = simp length-append (omega arith)
 
-pub written-size : (o : Outline) → Wide o → Counted o
-    → length (written o) ≡ 5 + length (field-bytes (o .initial)) + length (field-bytes (o .goal)) + length (joined action-bytes (task o .actions)) + 8 * (o .«group_count» + o .«bar_count»)
-written-size o wide counted =
-    omega (arith, written-parts o, ends-size (o .initial) (o .goal), sets-size (task o .groups), sets-size (task o .bars), groups-are o wide counted, bars-are o wide counted)
+module _ (b : Book) where
+  pub book-size : length (written (b .outline))
+      ≡ 5 + length (field-bytes (b .outline .initial)) + length (field-bytes (b .outline .goal)) + length (joined action-bytes (task (b .outline) .actions)) + 8 * (b .outline .«group_count» + b .outline .«bar_count»)
+  book-size =
+      let o = b .outline in
+      omega (arith, written-parts o, ends-size (o .initial) (o .goal), sets-size (task o .groups), sets-size (task o .bars), groups-are o (b .wide) (b .counted), bars-are o (b .wide) (b .counted))
 
-pub written-most : (o : Outline) → Wide o → Counted o → length (written o) ≤ 1813
-written-most o wide counted =
-    omega (arith, written-size o wide counted, field-most (o .initial), field-most (o .goal), actions-most (task o .actions), actions-are o wide counted, counted .0, counted .1, counted .2)
+  pub book-most : length (written (b .outline)) ≤ 1813
+  book-most =
+      let o = b .outline in
+      omega (arith, book-size, field-most (o .initial), field-most (o .goal), actions-most (task o .actions), actions-are o (b .wide) (b .counted), b .counted .0, b .counted .1, b .counted .2)

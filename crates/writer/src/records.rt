@@ -1,5 +1,4 @@
 // The writers of records, each a list of fields.
-ghost use mathlib.Core.Path.{_≡_};
 ghost use Prim.Native.Nat.{_+_, _≤_};
 ghost use lib.ListN.{length};
 ghost use Rattle.reader.specs.Written.{counts-bytes, ends-bytes, action-bytes};

@@ -22,7 +22,7 @@ put-field-requires c κs =
 pub returns : need.returns
 unfolding action-bytes
 returns c =
-    let map : c .bit .result + c .bit-2 .result + c .bit-3 .result ≡ bit 1 (c .args .a .needs) + bit 2 (c .args .a .adds) + bit 4 (c .args .a .deletes) = cc (c .bit .ensures, c .bit-2 .ensures, c .bit-3 .ensures) in
+    let map : c .bit .result + c .bit-2 .result + c .bit-3 .result ≡ bit 1 (c .args .a .needs) + bit 2 (c .args .a .adds) + bit 4 (c .args .a .deletes) = omega (arith, c .bit .ensures, c .bit-2 .ensures, c .bit-3 .ensures) in
     put-then (omega (arith, c .pre)) (rw map at (c .put-byte-needs-at .ensures))
     (put-then (omega (arith, c .pre, action-size (c .args .a), c .put-byte-needs-at .ensures .stop)) (c .put-field-adds-at .ensures)
     (put-then (omega (arith, c .pre, action-size (c .args .a), c .put-byte-needs-at .ensures .stop, c .put-field-adds-at .ensures .stop)) (c .put-field-deletes-at .ensures) (c .put-field .ensures)))

@@ -18,6 +18,6 @@ put-field-requires c κs = omega (arith, c .pre, ends-size (c .args .initial) (c
 pub returns : need.returns
 unfolding ends-bytes
 returns c =
-    let map : c .bit .result + c .bit-2 .result ≡ bit 1 (c .args .initial) + bit 2 (c .args .goal) = cc (c .bit .ensures, c .bit-2 .ensures) in
+    let map : c .bit .result + c .bit-2 .result ≡ bit 1 (c .args .initial) + bit 2 (c .args .goal) = omega (arith, c .bit .ensures, c .bit-2 .ensures) in
     put-then (omega (arith, c .pre)) (rw map at (c .put-byte-initial-at .ensures))
     (put-then (omega (arith, c .pre, ends-size (c .args .initial) (c .args .goal), c .put-byte-initial-at .ensures .stop)) (c .put-field-goal-at .ensures) (c .put-field .ensures))

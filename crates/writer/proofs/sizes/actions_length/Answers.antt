@@ -1,7 +1,4 @@
-use mathlib.Core.Path.{ap, _∙_}
 use native.Mathlib.Omega.{arith}
-use lib.ListN.{length}
-use Rattle.std.specs.Joined.{joined}
 use Rattle.std.proofs.shelf.Lists.{length-append, take-all}
 use Rattle.model.specs.Tasks.{idle}
 use Rattle.reader.specs.Written.{action-bytes}
