@@ -9,7 +9,7 @@ use lib.ListN.{length}
 use Rattle.std.proofs.shelf.Tests.{cases-lt}
 use Rattle.std.specs.Orderings.{When}
 use Rattle.std.specs.declared.option.Option.the-variants.{Some, None}
-use Rattle.sets.specs.Sets.{In, Part}
+use Rattle.sets.specs.Sets.{In, Part, Lowest}
 use Rattle.model.specs.declared.Booking.{Booking}
 use Rattle.model.specs.Tasks.{Task, Has, action, bar}
 use Rattle.model.specs.Plans.{Disturb, next}
@@ -18,7 +18,7 @@ use Rattle.model.specs.Bookings.{Booked-for}
 use Rattle.check.specs.declared.flaws.Flaw.{Flaw}
 use Rattle.check.specs.declared.flaws.Flaw.the-variants.{StripLength, UnknownAction, MissingBooking, UnmetNeed, Disturbance, BarAfter, GoalMissed}
 use Rattle.check.specs.Flaws.{flaw-number, flaw-first, flaw-second, Sooner}
-use Rattle.check.specs.Finds.{Lowest, Lowest-pair, Flaw-of}
+use Rattle.check.specs.Finds.{Lowest-pair, Flaw-of}
 
 module _ (b : Task) (bookings : List Booking) (t state round : ℕ) where
   abbrev Here : Flaw → Type 0

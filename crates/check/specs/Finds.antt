@@ -12,11 +12,6 @@ use Rattle.model.specs.Plans.{next}
 use Rattle.check.specs.declared.flaws.Flaw.{Flaw}
 use Rattle.check.specs.Flaws.{flaw-round, Round-flaw, Sooner}
 
--- the lowest number with P, or none
-abbrev pub Lowest : Option ℕ → (ℕ → Type 0) → Type 0
-Lowest None P = (k : ℕ) → P k → ⊥
-Lowest (Some i) P = P i × ((k : ℕ) → k < i → P k → ⊥)
-
 -- the first pair with P, by its first, then its second number, or none
 abbrev pub Lowest-pair : Option (ℕ × ℕ) → (ℕ → ℕ → Type 0) → Type 0
 Lowest-pair None P = (k m : ℕ) → P k m → ⊥

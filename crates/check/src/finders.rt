@@ -1,11 +1,11 @@
 // The flaws of one round, each by the lowest action, pair or bar that shows it.
 ghost use Prim.Native.Nat.{_<_};
 ghost use lib.ListN.{length};
-ghost use Rattle.sets.specs.Sets.{In, Part};
+ghost use Rattle.sets.specs.Sets.{In, Part, Lowest};
 ghost use Rattle.model.specs.Tasks.{Has, action, bar};
 ghost use Rattle.model.specs.Plans.{Disturb};
 ghost use Rattle.book.specs.Views.{task};
-ghost use Rattle.check.specs.Finds.{Lowest, Lowest-pair};
+ghost use Rattle.check.specs.Finds.{Lowest-pair};
 use book::book::Book;
 use rounds::steps::disturb;
 use sets::contains;

@@ -16,7 +16,6 @@ use sets::is_part;
 
 mod finders;
 pub mod flaws;
-mod numbers;
 
 // The state after the round, or the round's first flaw.
 fn check_round(book: &Book, card: &Card, t: u8, state: u64, round: u64) -> Result<u64, Flaw>

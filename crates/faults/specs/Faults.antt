@@ -78,11 +78,6 @@ Breaks b (NotOneAtStart g) = (g < length (b .groups)) × (One (b .initial) (grou
 Breaks b (BrokenGroup a) = Has b a × ((g : ℕ) × (g < length (b .groups)) × (Fits (action b a) (group b g) → ⊥))
 Breaks b (BarAtStart i) = (i < length (b .bars)) × Part (bar b i) (b .initial)
 
--- the lowest number with P, or none
-abbrev pub Lowest : Option ℕ → (ℕ → Type 0) → Type 0
-Lowest None P = (k : ℕ) → P k → ⊥
-Lowest (Some i) P = P i × ((k : ℕ) → k < i → P k → ⊥)
-
 -- e has the smaller number, or the same and the lower record
 abbrev pub Earlier : Fault → Fault → Type 0
 Earlier e f = (fault-number e < fault-number f) ⊎ ((fault-number e ≡ fault-number f) × (place (fault-record e) < place (fault-record f)))

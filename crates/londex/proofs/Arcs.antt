@@ -6,10 +6,9 @@ use native.Mathlib.Omega.{arith}
 use lib.Bits.{bitAnd, bitOr}
 use lib.ListN.{length}
 use Rattle.std.proofs.shelf.Tests.{cases-eq}
-use Rattle.sets.specs.Sets.{In}
+use Rattle.sets.specs.Sets.{In, Marks}
 use Rattle.sets.proofs.Members.{in-or, or-left, or-right, in-and, and-in, nothing-in}
 use Rattle.model.specs.Tasks.{Task, action, group}
-use Rattle.londex.specs.Splits.{Marks}
 use Rattle.londex.specs.Ways.{Together, Step}
 
 -- ---- one number after the other

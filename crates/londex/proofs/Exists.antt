@@ -14,14 +14,13 @@ use lib.Pow.{pow-mono}
 use Rattle.std.proofs.shelf.Tests.{cases-eq, cases-lt, eq-eqb, ne-eqb}
 use Rattle.std.specs.declared.option.Option.{Option}
 use Rattle.std.specs.declared.option.Option.the-variants.{Some, None}
-use Rattle.sets.specs.Sets.{In, has, Meet}
+use Rattle.sets.specs.Sets.{In, has, Meet, Marks}
 use Rattle.sets.proofs.Members.{nothing-in, in-below, meet-from, meet-to}
 use Rattle.model.specs.Tasks.{Task, Lawful, action, group}
 use Rattle.model.specs.Distances.{Facts}
 use Rattle.model.proofs.Spaces.{by-down}
 use Rattle.model.specs.Gaps.{Up-to, Far, Rule, By, A1, A2, B1, B2, B3, B4, Gap}
 use Rattle.londex.specs.Bounds.{Under}
-use Rattle.londex.specs.Splits.{Marks}
 use Rattle.londex.specs.Tables.{Table, at, Charted, Spaced}
 use Rattle.londex.specs.Ways.{Together, Step, Led, Least, Written}
 use Rattle.londex.proofs.Arcs.{Some-below, union-none, union-in, Both-in, Swaps, together-all, step-all}

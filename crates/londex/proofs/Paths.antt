@@ -8,11 +8,10 @@ use lib.Pow.{pow-mono}
 use Rattle.std.proofs.shelf.Tests.{cases-order}
 use Rattle.std.specs.declared.option.Option.{Option}
 use Rattle.std.specs.declared.option.Option.the-variants.{Some, None}
-use Rattle.sets.specs.Sets.{In}
+use Rattle.sets.specs.Sets.{In, Marks}
 use Rattle.sets.proofs.Members.{in-below}
 use Rattle.model.specs.Tasks.{Task, Lawful, group}
 use Rattle.model.specs.Distances.{Arc, Path-of, Distance, Facts}
-use Rattle.londex.specs.Splits.{Marks}
 use Rattle.londex.specs.Ways.{Together, Step, Steps, Least}
 
 module _ (b : Task) (ok : Lawful b) where

@@ -13,10 +13,10 @@ use lib.Seq.{getD-set-same, getD-set-other}
 use Rattle.std.proofs.shelf.Tests.{cases-eq}
 use Rattle.std.specs.declared.option.Option.{Option}
 use Rattle.std.specs.declared.option.Option.the-variants.{Some, None}
-use Rattle.sets.specs.Sets.{In, Part}
+use Rattle.sets.specs.Sets.{In, Part, Marks}
 use Rattle.sets.proofs.Members.{out-or-in, in-or, or-left, or-right, in-and, and-in, nothing-in, some-member, in-below, single-is, single-has, shift-is}
 use Rattle.sets.proofs.Counts.{ones-more, ones-some}
-use Rattle.londex.specs.Splits.{Marks, Splits}
+use Rattle.londex.specs.Splits.{Splits}
 use Rattle.londex.specs.Ways.{Led, Steps, Least, Written, entry}
 use Rattle.londex.proofs.Digits.{in-not, not-in}
 use Rattle.londex.proofs.Rests.{Done, done-here, done-still, done-before}

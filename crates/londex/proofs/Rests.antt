@@ -4,9 +4,9 @@ use mathlib.Core.Logic.{_⊎_, inl, inr, ⊎-elim}
 use Prim.Native.Nat.{ℕ}
 use lib.Bits.{bitOr}
 use Rattle.std.proofs.shelf.Tests.{cases-eq}
-use Rattle.sets.specs.Sets.{In, Part}
+use Rattle.sets.specs.Sets.{In, Part, Marks}
 use Rattle.sets.proofs.Members.{in-or, or-left, or-right, nothing-in}
-use Rattle.londex.specs.Splits.{Marks, Splits}
+use Rattle.londex.specs.Splits.{Splits}
 
 -- x is a member of the set, and no longer one of those left
 abbrev pub Done : ℕ → ℕ → ℕ → Type 0

@@ -9,12 +9,11 @@ use Rattle.std.proofs.shelf.Tests.{cases-eq, cases-order}
 use Rattle.std.specs.declared.option.Option.{Option}
 use Rattle.std.specs.declared.option.Option.the-variants.{Some, None}
 use Rattle.model.specs.declared.Action.{Action}
-use Rattle.sets.specs.Sets.{In}
+use Rattle.sets.specs.Sets.{In, Marks}
 use Rattle.sets.proofs.Members.{in-or, or-left, or-right, in-and, and-in, in-below}
 use Rattle.model.specs.Tasks.{Task, Lawful, Has, action}
 use Rattle.model.specs.Distances.{Distance, Facts}
 use Rattle.model.specs.Gaps.{Up-to, Rule, A1, A2, B1, B2, B3, B4, By, Gap, Closer}
-use Rattle.londex.specs.Splits.{Marks}
 use Rattle.londex.specs.Ways.{Together, Led}
 use Rattle.londex.specs.Tables.{Table, at, Grouped, Charted}
 use Rattle.londex.specs.Bounds.{Covers, Spared, Waits, Kept-off}

@@ -1,14 +1,9 @@
--- Sets by their members, and a set split into one member and the others.
+-- A set split into one member and the others.
 use mathlib.Core.Path.{_≡_}
 use Prim.Native.Nat.{ℕ, _<_}
 use Rattle.std.specs.declared.option.Option.{Option}
 use Rattle.std.specs.declared.option.Option.the-variants.{Some, None}
-use Rattle.sets.specs.Sets.{In}
-
--- the members of s are the numbers with P
-pub record Marks (P : ℕ → Type 0) (s : ℕ) : Type 0 where
-  pub only : (j : ℕ) → In j s → P j
-  pub all : (j : ℕ) → P j → In j s
+use Rattle.sets.specs.Sets.{In, Marks}
 
 -- i is a member of s, and rest has the others
 pub record Splits (s i rest : ℕ) : Type 0 where

@@ -4,10 +4,10 @@ use Prim.Native.Nat.{ℕ, _<_}
 use lib.ListN.{getD}
 use Rattle.std.specs.declared.option.Option.{Option}
 use Rattle.std.specs.declared.option.Option.the-variants.{None}
+use Rattle.sets.specs.Sets.{Marks}
 use Rattle.model.specs.Tasks.{Task, Has}
 use Rattle.model.specs.Distances.{Facts}
 use Rattle.model.specs.Gaps.{Gap}
-use Rattle.londex.specs.Splits.{Marks}
 use Rattle.londex.specs.Ways.{Together}
 
 -- a table, row by row

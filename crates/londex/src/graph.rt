@@ -1,6 +1,6 @@
 ghost use Prim.Native.Nat.{ℕ, _<_};
+ghost use Rattle.sets.specs.Sets.{Marks};
 ghost use Rattle.book.specs.Views.{task};
-ghost use Rattle.londex.specs.Splits.{Marks};
 ghost use Rattle.londex.specs.Tables.{Grouped};
 ghost use Rattle.londex.specs.Ways.{Together, Step, Led, graph};
 use crate::members::split_first;

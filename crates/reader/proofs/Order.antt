@@ -6,10 +6,11 @@ use native.Mathlib.Omega.{arith}
 use Rattle.std.proofs.shelf.Tests.{cases-lt}
 use Rattle.std.specs.declared.option.Option.{Option}
 use Rattle.std.specs.declared.option.Option.the-variants.{Some, None}
+use Rattle.sets.specs.Sets.{Lowest}
 use Rattle.model.specs.Tasks.{Task}
 use Rattle.faults.specs.declared.Fault.{Fault}
 use Rattle.faults.specs.declared.Fault.the-variants.{Field, BytesLeft, AddsAndDeletes, SharedGroup, NotOneAtStart, BrokenGroup, BarAtStart}
-use Rattle.faults.specs.Faults.{fault-number, fault-record, place, Breaks, Lowest, First-broken}
+use Rattle.faults.specs.Faults.{fault-number, fault-record, place, Breaks, First-broken}
 
 module _ (b : Task) where
   -- no fault of the whole book has a number below n

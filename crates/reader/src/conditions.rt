@@ -2,11 +2,11 @@
 ghost use mathlib.Core.Path.{_≡_};
 ghost use Prim.Native.Nat.{ℕ, _<_};
 ghost use Rattle.std.specs.Orderings.{Decides};
-ghost use Rattle.sets.specs.Sets.{In, Apart, Meet, One};
+ghost use Rattle.sets.specs.Sets.{In, Apart, Meet, One, Lowest};
 ghost use Rattle.model.specs.Tasks.{Fits, Has, action, group};
 ghost use Rattle.faults.specs.declared.Fault.the-variants.{AddsAndDeletes, SharedGroup, NotOneAtStart, BrokenGroup, BarAtStart};
 ghost use Rattle.book.specs.Views.{task, Counted, Wide};
-ghost use Rattle.faults.specs.Faults.{Breaks, Lowest};
+ghost use Rattle.faults.specs.Faults.{Breaks};
 use book::outline::Outline;
 use model::Action;
 

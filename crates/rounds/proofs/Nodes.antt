@@ -8,7 +8,7 @@ use lib.ListN.{length, getD}
 use Rattle.std.proofs.shelf.Tests.{cases-eq}
 use Rattle.std.specs.declared.option.Option.{Option}
 use Rattle.std.specs.declared.option.Option.the-variants.{Some, None}
-use Rattle.sets.specs.Sets.{In, Part, without}
+use Rattle.sets.specs.Sets.{In, Part, without, Marks}
 use Rattle.sets.proofs.Members.{out-or-in, in-or, or-left, or-right, in-without, without-in, same-members, single-is, single-has, shift-is}
 use Rattle.model.specs.declared.Action.{Action}
 use Rattle.model.specs.Tasks.{Task, idle, action, bar}
@@ -20,7 +20,6 @@ use Rattle.rounds.specs.declared.finder.Node.{Node}
 use Rattle.rounds.specs.declared.masks.Masks.{Masks}
 use Rattle.rounds.specs.Firsts.{Good, None-on, Answered}
 use Rattle.rounds.specs.Joins.{Joins, Loose}
-use Rattle.rounds.specs.Tables.{Marks}
 use Rattle.rounds.specs.Nodes.{Highest, Inside, Sound, Breaks-any, Doomed, Found, Lost, Searched}
 use Rattle.rounds.proofs.Orders.{part-le, all-below, ascends}
 use Rattle.rounds.proofs.Tables.{disturb-sym, quiet, not-beside}

@@ -9,13 +9,13 @@ use lib.Bits.{bitOr}
 use lib.ListN.{length, getD}
 use Rattle.std.proofs.shelf.Lists.{getD-past}
 use Rattle.std.proofs.shelf.Tests.{cases-lt, cases-eq}
-use Rattle.sets.specs.Sets.{In, Part, Meet}
+use Rattle.sets.specs.Sets.{In, Part, Meet, Marks}
 use Rattle.sets.proofs.Members.{nothing-in, in-or, or-left, or-right, single-is, single-has, shift-is}
 use Rattle.model.specs.declared.Action.{Action}
 use Rattle.model.specs.Tasks.{Task, idle, action, Has}
 use Rattle.model.specs.Plans.{Disturb}
 use Rattle.rounds.specs.Joins.{Joins}
-use Rattle.rounds.specs.Tables.{Marks, Clashes, Breakers, Breaks}
+use Rattle.rounds.specs.Tables.{Clashes, Breakers, Breaks}
 
 -- ---- a set built by a loop
 

@@ -3,14 +3,9 @@ use mathlib.Core.Path.{_≡_}
 use mathlib.Core.List.{List}
 use Prim.Native.Nat.{ℕ, _<_}
 use lib.ListN.{length, getD}
-use Rattle.sets.specs.Sets.{In, Meet}
+use Rattle.sets.specs.Sets.{In, Meet, Marks}
 use Rattle.model.specs.Tasks.{Task, action, Has, bar}
 use Rattle.model.specs.Plans.{Disturb}
-
--- the members of r are the numbers with P
-pub record Marks (P : ℕ → Type 0) (r : ℕ) : Type 0 where
-  pub only : (j : ℕ) → In j r → P j
-  pub all : (j : ℕ) → P j → In j r
 
 -- action j is another one than i, and they disturb each other
 abbrev pub Clash : Task → ℕ → ℕ → Type 0

@@ -1,7 +1,8 @@
 ghost use mathlib.Core.Path.{_≡_};
 ghost use Prim.Native.Nat.{_<_};
+ghost use Rattle.sets.specs.Sets.{Marks};
 ghost use Rattle.book.specs.Views.{task};
-ghost use Rattle.rounds.specs.Tables.{Marks, Clash, Breaks, Clashes, Breakers};
+ghost use Rattle.rounds.specs.Tables.{Clash, Breaks, Clashes, Breakers};
 use crate::steps::disturb;
 use book::book::Book;
 use sets::meets;

@@ -1,9 +1,11 @@
 -- Sets of numbers, each held in one number: the bit of value 2 ^ i stands for the member i.
 use mathlib.Core.Path.{_≡_}
 use mathlib.Core.Bool.{Bool}
-use Prim.Native.Nat.{ℕ, _/_, _%_, _^_}
+use Prim.Native.Nat.{ℕ, _/_, _%_, _^_, _<_}
 use lib.Bits.{bitAnd, bitXor}
 use lib.Dec.{eqb}
+use Rattle.std.specs.declared.option.Option.{Option}
+use Rattle.std.specs.declared.option.Option.the-variants.{Some, None}
 
 -- i is a member of s
 abbrev pub In : ℕ → ℕ → Type 0
@@ -36,3 +38,13 @@ AtMostOne a b = (i j : ℕ) → In i a → In i b → In j a → In j b → i �
 -- a without the members of b
 abbrev pub without : ℕ → ℕ → ℕ
 without a b = bitXor a (bitAnd a b)
+
+-- the members of s are the numbers with P
+pub record Marks (P : ℕ → Type 0) (s : ℕ) : Type 0 where
+  pub only : (j : ℕ) → In j s → P j
+  pub all : (j : ℕ) → P j → In j s
+
+-- the lowest number with P, or none
+abbrev pub Lowest : Option ℕ → (ℕ → Type 0) → Type 0
+Lowest None P = (k : ℕ) → P k → ⊥
+Lowest (Some i) P = P i × ((k : ℕ) → k < i → P k → ⊥)

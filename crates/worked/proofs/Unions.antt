@@ -8,11 +8,10 @@ use native.Mathlib.Numerals.{add-one}
 use lib.Bits.{bitAnd, bitOr, or-lt, and-le-r}
 use lib.ListN.{length}
 use Rattle.std.proofs.shelf.Tests.{eqb-true, eq-eqb}
-use Rattle.sets.specs.Sets.{In, has}
+use Rattle.sets.specs.Sets.{In, has, Marks}
 use Rattle.sets.proofs.Members.{nothing-in, in-and, and-in, in-below}
 use Rattle.model.specs.Tasks.{Task, action, group, Has}
 use Rattle.model.specs.Distances.{Arc}
-use Rattle.londex.specs.Splits.{Marks}
 use Rattle.londex.specs.Ways.{Led}
 use Rattle.londex.proofs.Arcs.{Some-below, union-none, union-in}
 

@@ -3,11 +3,10 @@ use Prim.Native.Nat.{ℕ, _+_}
 use native.Mathlib.Omega.{arith}
 use borrow.Author.Needs.{needs}
 use lib.ListN.{length, getD}
-use Rattle.sets.specs.Sets.{In}
+use Rattle.sets.specs.Sets.{In, Marks}
 use Rattle.model.specs.declared.Action.{Action}
 use Rattle.model.specs.Tasks.{idle}
 use Rattle.book.specs.Views.{task}
-use Rattle.londex.specs.Splits.{Marks}
 use Rattle.londex.proofs.Arcs.{Some-below, Swaps, union-none, union-in, union-out, step-all}
 use Rattle.book.proofs.Fronts.{action-is, actions-are}
 use Rattle.londex.proofs.graph.arcs_from.Needs as need

@@ -1,5 +1,5 @@
+use Rattle.sets.specs.Sets.{Marks}
 use Rattle.book.specs.Views.{task}
-use Rattle.londex.specs.Splits.{Marks}
 use Rattle.londex.proofs.Arcs.{Some-below, Swaps}
 use Rattle.londex.proofs.graph.arcs_from.Given as given
 

@@ -3,9 +3,8 @@ use Prim.Native.Nat.{ℕ, _+_}
 use native.Mathlib.Omega.{arith}
 use borrow.Author.Needs.{needs}
 use lib.ListN.{length, getD}
-use Rattle.sets.specs.Sets.{In}
+use Rattle.sets.specs.Sets.{In, Marks}
 use Rattle.book.specs.Views.{task}
-use Rattle.londex.specs.Splits.{Marks}
 use Rattle.londex.proofs.Arcs.{Some-below, Both-in, union-none, union-in, union-out, together-all}
 use Rattle.book.proofs.Fronts.{group-is, groups-are}
 use Rattle.londex.proofs.graph.group_of.Needs as need

@@ -1,5 +1,5 @@
+use Rattle.sets.specs.Sets.{Marks}
 use Rattle.book.specs.Views.{task}
-use Rattle.londex.specs.Splits.{Marks}
 use Rattle.londex.proofs.Arcs.{Some-below, Both-in}
 use Rattle.londex.proofs.graph.group_of.Given as given
 

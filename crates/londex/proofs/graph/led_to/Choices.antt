@@ -1,5 +1,4 @@
-use Rattle.sets.specs.Sets.{Part}
-use Rattle.londex.specs.Splits.{Marks}
+use Rattle.sets.specs.Sets.{Part, Marks}
 use Rattle.londex.specs.Ways.{graph}
 use Rattle.londex.proofs.Rests.{Led-by}
 use Rattle.londex.proofs.graph.led_to.Given as given

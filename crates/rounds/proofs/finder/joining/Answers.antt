@@ -2,13 +2,12 @@ use mathlib.Core.Path.{sym, subst}
 use Prim.Native.Nat.{ℕ, _+_, _<_}
 use native.Mathlib.Omega.{arith}
 use Rattle.std.proofs.shelf.Ways.{not-from-decides}
-use Rattle.sets.specs.Sets.{Part}
+use Rattle.sets.specs.Sets.{Part, Marks}
 use Rattle.model.specs.declared.Action.{Action}
 use Rattle.model.specs.Tasks.{Has}
 use Rattle.book.specs.Views.{task}
 use Rattle.book.proofs.Fronts.{action-is, actions-are}
 use Rattle.rounds.specs.Joins.{Joins}
-use Rattle.rounds.specs.Tables.{Marks}
 use Rattle.rounds.proofs.Tables.{marks-in, marks-out, joins-from, joins-not}
 use Rattle.rounds.proofs.finder.joining.Needs as need
 use Rattle.rounds.proofs.finder.joining.Needs.{then-is-part·then-not-meets, else-is-part, else-is-part·by·then-is-part·else-not-meets, else-is-part·by·else-is-part}

@@ -1,7 +1,7 @@
 use Prim.Native.Nat.{_<_}
+use Rattle.sets.specs.Sets.{Marks}
 use Rattle.book.specs.Views.{task}
 use Rattle.rounds.specs.Joins.{Joins}
-use Rattle.rounds.specs.Tables.{Marks}
 use Rattle.rounds.proofs.finder.joining.Given as given
 
 abbrev pub Inv-loop-i : given.InvT-loop-i

@@ -2,11 +2,11 @@ use mathlib.Core.Path.{sym, subst, subst₂}
 use Prim.Native.Nat.{ℕ, _+_, _<_}
 use native.Mathlib.Omega.{arith}
 use Rattle.std.proofs.shelf.Ways.{not-from-decides}
-use Rattle.sets.specs.Sets.{Meet}
+use Rattle.sets.specs.Sets.{Meet, Marks}
 use Rattle.model.specs.declared.Action.{Action}
 use Rattle.book.specs.Views.{task}
 use Rattle.book.proofs.Fronts.{action-is, bar-is, actions-are}
-use Rattle.rounds.specs.Tables.{Marks, Breaks}
+use Rattle.rounds.specs.Tables.{Breaks}
 use Rattle.rounds.proofs.Tables.{marks-in, marks-out}
 use Rattle.rounds.proofs.masks.breaking.Needs as need
 use Rattle.rounds.proofs.masks.breaking.Needs.{then-meets, else-meets}

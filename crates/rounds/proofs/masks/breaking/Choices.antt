@@ -1,6 +1,7 @@
 use Prim.Native.Nat.{_<_}
+use Rattle.sets.specs.Sets.{Marks}
 use Rattle.book.specs.Views.{task}
-use Rattle.rounds.specs.Tables.{Marks, Breaks}
+use Rattle.rounds.specs.Tables.{Breaks}
 use Rattle.rounds.proofs.masks.breaking.Given as given
 
 abbrev pub Inv-loop-j : given.InvT-loop-j

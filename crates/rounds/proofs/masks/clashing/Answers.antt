@@ -2,10 +2,11 @@ use mathlib.Core.Path.{sym, subst, subst₂}
 use Prim.Native.Nat.{ℕ, _+_, _<_}
 use native.Mathlib.Omega.{arith}
 use Rattle.std.proofs.shelf.Ways.{not-from-decides}
+use Rattle.sets.specs.Sets.{Marks}
 use Rattle.model.specs.Plans.{Disturb}
 use Rattle.book.specs.Views.{task}
 use Rattle.book.proofs.Fronts.{action-is, actions-are}
-use Rattle.rounds.specs.Tables.{Marks, Clash}
+use Rattle.rounds.specs.Tables.{Clash}
 use Rattle.rounds.proofs.Tables.{marks-in, marks-out}
 use Rattle.rounds.proofs.masks.clashing.Needs as need
 use Rattle.rounds.proofs.masks.clashing.Needs.{then-j-i·then-disturb, else-j-i, else-j-i·by·then-j-i·else-disturb, else-j-i·by·else-j-i}

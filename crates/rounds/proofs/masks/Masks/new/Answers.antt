@@ -5,9 +5,10 @@ use native.Mathlib.Omega.{arith}
 use borrow.Author.Count.{below-more}
 use lib.ListN.{length, getD, set, length-set}
 use lib.Seq.{getD-set-same, getD-set-other}
+use Rattle.sets.specs.Sets.{Marks}
 use Rattle.book.specs.Views.{task}
 use Rattle.book.proofs.Fronts.{actions-are, bars-are}
-use Rattle.rounds.specs.Tables.{Marks, Clash, Breaks}
+use Rattle.rounds.specs.Tables.{Clash, Breaks}
 use Rattle.rounds.proofs.masks.Masks.new.Needs as need
 
 pub loop-i-again : need.loop-i-again

@@ -1,8 +1,9 @@
 use mathlib.Core.Path.{_≡_}
 use Prim.Native.Nat.{ℕ, _<_}
 use lib.ListN.{length, getD}
+use Rattle.sets.specs.Sets.{Marks}
 use Rattle.book.specs.Views.{task}
-use Rattle.rounds.specs.Tables.{Marks, Clash, Breaks}
+use Rattle.rounds.specs.Tables.{Clash, Breaks}
 use Rattle.rounds.proofs.masks.Masks.new.Given as given
 
 abbrev pub Inv-loop-i : given.InvT-loop-i
