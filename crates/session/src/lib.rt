@@ -53,9 +53,10 @@ impl Session {
         ensures book { λ r. ⌜ r .londex .book ≡ book ⌝ }
         ensures follows { λ r. ⌜ Follows (task (r .londex .book .outline)) (held (r .line)) [] [] ⌝ }
     {
+        let line = Line::new();
         Session {
             londex: Londex::new(book),
-            line: Line::new(),
+            line,
         }
     }
 
