@@ -1,4 +1,6 @@
 // The program at the bench: book.bin and lines on standard input, one answer a line.
+#![tactic(auto)]
+
 use book::book::Book;
 use lines::reply::push_reply;
 use session::Session;

@@ -27,9 +27,3 @@ pub record Padded (o : Outline) : Type 0 where
   pub actions : (i : ℕ) → o.action_count ≤ i → i < 64 → ((slice_index_or o.actions i idle).needs ≡ 0) × ((slice_index_or o.actions i idle).adds ≡ 0) × ((slice_index_or o.actions i idle).deletes ≡ 0)
   pub groups : (i : ℕ) → o.group_count ≤ i → i < 16 → slice_index o.groups i ≡ 0
   pub bars : (i : ℕ) → o.bar_count ≤ i → i < 8 → slice_index o.bars i ≡ 0
-
--- the lists of two tasks are the same
-pub record SameTables (b c : Task) : Type 0 where
-  pub actions : b.actions ≡ c.actions
-  pub groups : b.groups ≡ c.groups
-  pub bars : b.bars ≡ c.bars

@@ -1,4 +1,6 @@
 // A card: how many rounds a plan has, and which actions are booked for which of them.
+#![tactic(auto)]
+
 // The struct stands alone in its file, so that the definitions in specs/ can name it.
 ghost use Rattle.std.specs.Prelude.{◌≤◌};
 ghost use Rattle.model.specs.Bookings.{Proper, Once};

@@ -1,4 +1,6 @@
 // The check of a finished plan: a strip has for each round the set of its actions.
+#![tactic(auto)]
+
 ghost use Rattle.book.specs.Views.{task};
 ghost use Rattle.card.specs.Views.{ledger_of};
 ghost use Rattle.check.specs.Flaws.{Checks};

@@ -1,4 +1,6 @@
 // Why a file is no book.
+#![tactic(auto)]
+
 ghost use Rattle.std.specs.Prelude.{◌≡◌};
 ghost use Rattle.faults.specs.declared.Record.TheVariants.{Head as HEAD};
 ghost use Rattle.faults.specs.declared.Fault.TheVariants.{Field as FIELD};

@@ -1,4 +1,6 @@
 // Distances between the facts of a group, and the gaps between actions that follow from them.
+#![tactic(auto)]
+
 mod bounds;
 pub mod distances;
 pub mod gaps;

@@ -1,4 +1,6 @@
 // Two sieves that look ahead to what is due: the goal, and the bookings that are still to come.
+#![tactic(auto)]
+
 mod beyond;
 mod clashes;
 mod deadlines;

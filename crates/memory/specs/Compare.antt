@@ -3,15 +3,14 @@ use Rattle.std.specs.Prelude.{◌≡◌, ℕ, zero, suc, ◌<◌, Bool, true, fa
 use Rattle.std.proofs.Common.{sym, ap, ◌∙◌, ⊎_elim, arith, take-append-drop}
 use Rattle.std.proofs.lemmas.Bool.{eq-eqb, eqb-true, and_parts, and_from, or_cases, or_left, or_right, false≢true}
 use Rattle.std.specs.List.{ContainsAt as Has}
-use Rattle.model.specs.declared.Action.{Action}
 use Rattle.model.specs.declared.Booking.{Booking}
-use Rattle.model.specs.Tasks.{Task}
+use Rattle.model.proofs.Same.{Test, task_test}
 use Rattle.model.specs.Ledgers.{same, slot, Among}
 use Rattle.model.specs.Bookings.{AllOf}
 use Rattle.model.specs.Sieves.{Subject, Grew}
 use Rattle.memory.specs.declared.told.Told.{Told}
-use Rattle.memory.specs.Lists.{same_list, among, all_among}
-use Rattle.memory.specs.Keeping.{same_action, same_task, keeps, KeepsJust}
+use Rattle.memory.specs.Lists.{among, all_among}
+use Rattle.memory.specs.Keeping.{keeps, KeepsJust}
 use Rattle.memory.specs.Memories.{same_told}
 
 -- two tests of one fact answer alike
@@ -19,26 +18,6 @@ pub agree : (r b : Bool) {P : Type 0} → Decides r P → Decides b P → r ≡ 
 agree true b f g = sym (g.1 (f.0 refl))
 agree false true f g = f.1 (g.0 refl)
 agree false false f g = refl
-
-abbrev pub Test : {A : Type 0} → (A → A → Bool) → Type 0
-Test {A} f = (x y : A) → Decides (f x y) (x ≡ y)
-
-pub number_test : Test nat_eq
-number_test x y = (λ e. eqb-true x y e, λ e. eq-eqb x y e)
-
-pub action_test : Test same_action
-action_test x y = (
-  λ e.
-      let a = and_parts _ _ e in
-      let b = and_parts _ _ a.1 in
-      let p = eqb-true _ _ a.0 in
-      let q = eqb-true _ _ b.0 in
-      let r = eqb-true _ _ b.1 in
-      λ i. record { needs = p i; adds = q i; deletes = r i },
-  λ e.
-      and_from _ _ (eq-eqb _ _ (ap (λ (a : Action). a.needs) e))
-      (and_from _ _ (eq-eqb _ _ (ap (λ (a : Action). a.adds) e)) (eq-eqb _ _ (ap (λ (a : Action). a.deletes) e))),
-)
 
 pub booking_test : Test same
 booking_test x y = (
@@ -61,15 +40,6 @@ told_test x y = (
 )
 
 module _ {A : Type 0} {f : A → A → Bool} (test : Test f) where
-  pub list_test : (xs ys : List A) → Decides (same_list f xs ys) (xs ≡ ys)
-  list_test [] [] = (λ e. refl, λ e. refl)
-  list_test [] (y ∷ ys) = (λ e. absurd (false≢true e), λ e. let z : ◌≡◌ {A = ℕ} 0 1 = cc in absurd (omega arith))
-  list_test (x ∷ xs) [] = (λ e. absurd (false≢true e), λ e. let z : ◌≡◌ {A = ℕ} 0 1 = cc in absurd (omega arith))
-  list_test (x ∷ xs) (y ∷ ys) = (
-    λ e. let a = and_parts _ _ e in let p = (test x y).0 a.0 in let q = (list_test xs ys).0 a.1 in cc,
-    λ e. let p : x ≡ y = cc in let q : xs ≡ ys = cc in and_from _ _ ((test x y).1 p) ((list_test xs ys).1 q),
-  )
-
   pub among_test : (x : A) (ys : List A) → Decides (among f x ys) (Has ys x)
   among_test x ys = (there ys, λ h. here ys h.0 h.1 h.2)
     where
@@ -127,30 +97,7 @@ all_booked xs ys = (from xs, to xs)
     to [] h = refl
     to (x ∷ zs) h = and_from _ _ ((among_booked x ys).1 (h x (0, (omega arith, refl)))) (to zs (λ z a. h z (suc a.0, (omega (arith, a.1.0), a.1.1))))
 
--- ---- tasks and subjects
-
-task_test : Test same_task
-task_test b c = (
-  λ e.
-      let u = and_parts _ _ e in
-      let v = and_parts _ _ u.1 in
-      let w = and_parts _ _ v.1 in
-      let x = and_parts _ _ w.1 in
-      let y = and_parts _ _ x.1 in
-      let p = eqb-true _ _ u.0 in
-      let q = eqb-true _ _ v.0 in
-      let r = eqb-true _ _ w.0 in
-      let s = (list_test action_test b.actions c.actions).0 x.0 in
-      let t = (list_test number_test b.groups c.groups).0 y.0 in
-      let o = (list_test number_test b.bars c.bars).0 y.1 in
-      λ i. record { facts = p i; actions = s i; groups = t i; bars = o i; initial = q i; goal = r i },
-  λ e.
-      and_from _ _ (eq-eqb _ _ (ap (λ (t : Task). t.facts) e))
-      (and_from _ _ (eq-eqb _ _ (ap (λ (t : Task). t.initial) e))
-      (and_from _ _ (eq-eqb _ _ (ap (λ (t : Task). t.goal) e))
-      (and_from _ _ ((list_test action_test b.actions c.actions).1 (ap (λ (t : Task). t.actions) e))
-      (and_from _ _ ((list_test number_test b.groups c.groups).1 (ap (λ (t : Task). t.groups) e)) ((list_test number_test b.bars c.bars).1 (ap (λ (t : Task). t.bars) e)))))),
-)
+-- ---- subjects
 
 pub keeps_just : KeepsJust
 keeps_just x y = (

@@ -1,22 +1,9 @@
 -- When a memory keeps what it was told: book and number of rounds are the same, and no booking was released.
-use Rattle.std.specs.Prelude.{Bool, false, ◌&&◌, Some, None, Decides, Option, ◌==◌, nat_eq}
-use Rattle.model.specs.declared.Action.{Action}
-use Rattle.model.specs.Tasks.{Task}
+use Rattle.std.specs.Prelude.{Bool, false, ◌&&◌, Some, None, Decides, Option, ◌==◌}
+use Rattle.model.specs.Same.{same_task}
 use Rattle.model.specs.Ledgers.{same}
 use Rattle.model.specs.Sieves.{Subject, Grew}
-use Rattle.memory.specs.Lists.{same_list, all_among}
-
-abbrev pub same_action : Action → Action → Bool
-same_action a c = a.needs == c.needs && (a.adds == c.adds && a.deletes == c.deletes)
-
-abbrev pub same_task : Task → Task → Bool
-same_task b c =
-    (b.facts == c.facts)
-    && (b.initial == c.initial
-    && (b.goal == c.goal
-    && (same_list same_action b.actions c.actions
-    && (same_list nat_eq b.groups c.groups
-    && same_list nat_eq b.bars c.bars))))
+use Rattle.memory.specs.Lists.{all_among}
 
 -- the test, since the rules of a sieve are functions
 abbrev pub keeps : Subject → Subject → Bool

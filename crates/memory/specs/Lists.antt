@@ -1,13 +1,6 @@
 -- Lists compared by a test of their elements.
 use Rattle.std.specs.Prelude.{Bool, true, false, ◌&&◌, ◌||◌, List, [], ◌∷◌}
 
--- the lists are the same
-abbrev pub same_list : {A : Type 0} → (A → A → Bool) → List A → List A → Bool
-same_list f [] [] = true
-same_list f [] (y ∷ ys) = false
-same_list f (x ∷ xs) [] = false
-same_list f (x ∷ xs) (y ∷ ys) = f x y && same_list f xs ys
-
 -- x is one of them
 abbrev pub among : {A : Type 0} → (A → A → Bool) → A → List A → Bool
 among f x [] = false

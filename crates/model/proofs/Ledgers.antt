@@ -1,6 +1,6 @@
 -- The relation of the ledger and the function that computes it are one.
 use Rattle.std.proofs.Common.{◌≡◌, ℕ, zero, suc, ◌<◌, Bool, true, false, eqb, leb, ◌⊎◌, List, [], ◌∷◌, ◌++◌, length, sym, refl, ap, ◌∙◌, subst, inl, inr, ⊎_elim, arith}
-use Rattle.std.proofs.lemmas.Bool.{cases_Bool, cases_lt, cases_order, both_ways, and_parts, and_from, eqb-true, eq-eqb, leb-true, lt-ltb, le-leb, ltb-true, cond-true, cond_false, not-true, not_from_false, or_left, or_right, or_cases, false≢true}
+use Rattle.std.proofs.lemmas.Bool.{cases_Bool, cases_lt, cases_order, both_ways, and_parts, and_from, eqb-true, eq-eqb, leb-true, lt-ltb, le-leb, ltb-true, cond-true, cond-false, not-true, not_from_false, or_left, or_right, or_cases, false≢true}
 use Rattle.model.specs.declared.Booking.{Booking}
 use Rattle.model.specs.Ledgers.{Ledger, Call, book, release, stretch, find, slot, Among, Applies, no_such_action, too_late, stands_already, full, absent, too_long, cut_off, foreign, too_short, Allowed, Enters, Verdict, done, refused, Turns, same, any, taken_out, Ground, grounds, first, verdict, entered, settled, after, Computed}
 
@@ -59,7 +59,7 @@ no_to r from no-p = ⊎_elim (λ e. absurd (no-p (from e))) (λ e. e) (cases_Boo
 taken_out_split : (x : Booking) (before behind : List Booking) → (Among x before → ⊥) → taken_out x (before ++ (x ∷ behind)) ≡ before ++ behind
 taken_out_split x [] behind none = cond-true (same x x) behind (x ∷ taken_out x behind) (same_to x x refl)
 taken_out_split x (y ∷ ys) behind none =
-    cond_false (same x y) (ys ++ (x ∷ behind)) (y ∷ taken_out x (ys ++ (x ∷ behind))) (no_to (same x y) (λ e. subst (λ (z : Booking). Among z (y ∷ ys)) (sym (same_from x y e)) (among_here y ys)) none)
+    cond-false (same x y) (ys ++ (x ∷ behind)) (y ∷ taken_out x (ys ++ (x ∷ behind))) (no_to (same x y) (λ e. subst (λ (z : Booking). Among z (y ∷ ys)) (sym (same_from x y e)) (among_here y ys)) none)
     ∙ ap (λ zs. y ∷ zs) (taken_out_split x ys behind (λ a. none (among_behind x y ys a)))
 
 -- the place of the first x
@@ -71,7 +71,7 @@ split_behind x y ys q (before, behind, is, left, none) = (
   y ∷ before,
   behind,
   ap (λ zs. y ∷ zs) is,
-  cond_false (same x y) ys (y ∷ taken_out x ys) q ∙ ap (λ zs. y ∷ zs) left,
+  cond-false (same x y) ys (y ∷ taken_out x ys) q ∙ ap (λ zs. y ∷ zs) left,
   λ a. ⊎_elim (λ p. both_ways _ q (same_to x y p)) none (among_cases x y before a),
 )
 
@@ -119,7 +119,7 @@ first_says : (n : ℕ) (xs : List Ground) → Rising n xs → Says xs (first xs)
 first_says n [] up = λ m h. h
 first_says n (x ∷ xs) up =
     ⊎_elim (λ e. subst (Says (x ∷ xs)) (sym (cond-true x.applies (refused x.number) (first xs) e)) (inl (refl, e), lower))
-    (λ e. subst (Says (x ∷ xs)) (sym (cond_false x.applies (refused x.number) (first xs) e)) (past x xs (first xs) e (first_says x.number xs up.1)))
+    (λ e. subst (Says (x ∷ xs)) (sym (cond-false x.applies (refused x.number) (first xs) e)) (past x xs (first xs) e (first_says x.number xs up.1)))
     (cases_Bool x.applies)
   where
     lower : (m : ℕ) → m < x.number → Told m (x ∷ xs) → ⊥

@@ -1,4 +1,5 @@
 pub mod Tasks
+pub mod Same
 pub mod Distances
 pub mod Plans
 pub mod Gaps

@@ -1,4 +1,6 @@
 // Reads a book from the bytes of its file.
+#![tactic(auto)]
+
 mod conditions;
 mod cursor;
 mod fields;

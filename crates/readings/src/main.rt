@@ -1,6 +1,8 @@
 // Reads books that are written in hexadecimal, one on a line of standard input, and says what the reader makes of each:
 // `ok` with the numbers of facts, actions, groups and bars, and whether the book is written back as the same bytes and a
 // buffer that is too short is left alone; or `no` with the fault's number, its record and its first byte.
+#![tactic(auto)]
+
 use book::book::Book;
 use faults::{Fault, Record};
 use reader::read::read;

@@ -1,4 +1,6 @@
 // A session at the bench: what is typed, and what is printed.
+#![tactic(auto)]
+
 ghost use Rattle.std.specs.Prelude.{◌≡◌, ℕ, List, [], ◌++◌, string_bytes, OnOk};
 ghost use Rattle.book.specs.Views.{task};
 ghost use Rattle.lines.specs.Held.{held};

@@ -1,4 +1,6 @@
 // Lawful rounds of the sample book in order, and strips that are checked: one line each.
+#![tactic(auto)]
+
 use book::book::Book;
 use card::Card;
 use check::check;

@@ -2,7 +2,7 @@
 use Rattle.std.proofs.Common.{◌≡◌, ℕ, zero, suc, ◌+◌, ◌-◌, ◌*◌, ◌%◌, ◌^◌, ◌<◌, ◌≤◌, Bool, true, false, cond, eqb, List, length, Some, None, Option, sym, refl, ◌∙◌, subst, arith}
 use lib.Bits.{bit_and, bit_or, or_lt, and_le_l}
 use lib.Count.{ones-le}
-use Rattle.std.proofs.lemmas.Bool.{eqb-true, eqb-false, eq-eqb, ne_eqb, cond-true, cond_false}
+use Rattle.std.proofs.lemmas.Bool.{eqb-true, eqb-false, eq-eqb, ne_eqb, cond-true, cond-false}
 use Rattle.sets.specs.Sets.{In, has}
 use Rattle.model.specs.Tasks.{Task, group}
 use Rattle.model.specs.Distances.{PathOf, Distance}
@@ -17,7 +17,7 @@ noted d fresh row x = cond (has x fresh) (Some d) (row x)
 noted_written : (d fresh : ℕ) (row : ℕ → Option ℕ) → Written (λ x. In x fresh) d row (noted d fresh row)
 noted_written d fresh row = record {
   here = λ x h. cond-true (has x fresh) (Some d) (row x) (eq-eqb _ _ h);
-  elsewhere = λ x out. cond_false (has x fresh) (Some d) (row x) (ne_eqb _ _ out);
+  elsewhere = λ x out. cond-false (has x fresh) (Some d) (row x) (ne_eqb _ _ out);
 }
 
 module _ (f : ℕ → ℕ) where

@@ -1,4 +1,6 @@
 // Writes a book as the bytes of its file.
+#![tactic(auto)]
+
 mod fields;
 mod records;
 pub mod refusal;
