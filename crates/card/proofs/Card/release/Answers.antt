@@ -25,20 +25,14 @@ returns-in-Some c =
     (λ (j, h). let f = front_from i xs x j (omega (arith, here.0.0)) h in here.1 j f.0 (omega (arith, f.0, here.0.0), f.1))
     (i, here.0)
 
-pub invariant-of-self : goal.invariant-of-self
-invariant-of-self c =
+pub invariant_of-self : goal.invariant_of-self
+invariant_of-self c =
     let old = c.args.self.now in
     let within = c.in-Some.ensures.0.0 in
-    let is = c.remove.ensures.listed in (
-      old.short,
-      (
-        c.remove.ensures.fit,
-        (
-          c.remove.ensures.clear,
-          (
-            subst (Proper old.rounds) (sym is) (proper_removed (listed old.bookings) c.in-Some.place within old.rounds old.proper),
-            (subst Once (sym is) (once_removed (listed old.bookings) c.in-Some.place within old.once), tt),
-          ),
-        ),
-      ),
-    )
+    let is = c.remove.ensures.listed in record {
+      short = old.short;
+      fit = c.remove.ensures.fit;
+      clear = c.remove.ensures.clear;
+      proper = subst (Proper old.rounds) (sym is) (proper_removed (listed old.bookings) c.in-Some.place within old.rounds old.proper);
+      once = subst Once (sym is) (once_removed (listed old.bookings) c.in-Some.place within old.once);
+    }

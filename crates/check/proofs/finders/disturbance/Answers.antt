@@ -5,7 +5,7 @@ use Rattle.book.specs.Views.{task}
 use Rattle.book.proofs.Fronts.{actions_are}
 use Rattle.check.proofs.Parts.{has_in, has_out, past_calm}
 use Rattle.check.proofs.finders.disturbance.Goals as goal
-use Rattle.check.proofs.finders.disturbance.Goals.{then-contains+in-default, else-contains}
+use Rattle.check.proofs.finders.disturbance.Goals.{then-contains+in_default, else-contains}
 
 pub returns-in-Some : goal.returns-in-Some
 returns-in-Some c =
@@ -17,7 +17,7 @@ pub loop-a-preserved : goal.loop-a-preserved
 loop-a-preserved c =
     below_more _ _ c.loop-a.invariant
     (λ m h. elim c.if-contains.branch [
-      | then-contains+in-default w ↦ w.in-default.ensures m (h.0, h.2, h.3)
+      | then-contains+in_default w ↦ w.in_default.ensures m (h.0, h.2, h.3)
       | else-contains w ↦ has_out _ _ _ c.contains.ensures w.if-contains.false h.1
     ])
 

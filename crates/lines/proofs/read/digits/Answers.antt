@@ -3,12 +3,12 @@ use Rattle.std.proofs.lemmas.Bool.{eqb-true}
 use Rattle.std.specs.Int.{IsInRange}
 use Rattle.lines.proofs.Numbers.{some, decimal_long, decimal_front, decimal_digits, read_more, bound_more, read_all}
 use Rattle.lines.proofs.read.digits.Goals as goal
-use Rattle.lines.proofs.read.digits.Goals.{then-is-empty-via-then-is-empty, then-is-empty-via-else-is-empty+then-s-gt-MOST-DIGITS, then-b-lt48-via-then-b-lt48, then-b-lt48-via-else-b-lt48+then-b-gt57}
+use Rattle.lines.proofs.read.digits.Goals.{then-is_empty-via-then-is_empty, then-is_empty-via-else-is_empty+then-s-gt-MOST_DIGITS, then-b-lt48-via-then-b-lt48, then-b-lt48-via-else-b-lt48+then-b-gt57}
 
-pub returns-then-is-empty : goal.returns-then-is-empty
-returns-then-is-empty c = λ n h.
+pub returns-then-is_empty : goal.returns-then-is_empty
+returns-then-is_empty c = λ n h.
     let l = decimal_long c.args.s.now n h in
-    elim c.then-is-empty.branch [ then-is-empty-via-then-is-empty w ↦ omega (arith, eqb-true _ _ (sym w.if-is-empty.ensures)) | then-is-empty-via-else-is-empty+then-s-gt-MOST-DIGITS w ↦ omega (arith, w.if-s-gt-MOST-DIGITS.true) ]
+    elim c.then-is_empty.branch [ then-is_empty-via-then-is_empty w ↦ omega (arith, eqb-true _ _ (sym w.if-is_empty.ensures)) | then-is_empty-via-else-is_empty+then-s-gt-MOST_DIGITS w ↦ omega (arith, w.if-s-gt-MOST_DIGITS.true) ]
 
 pub returns-then-s-gt1 : goal.returns-then-s-gt1
 returns-then-s-gt1 c = λ n h. omega (arith, decimal_front c.args.s.now n h c.if-s-eq48.true)
@@ -27,7 +27,7 @@ loop-b-preserved c = (
 
 pub returns : goal.returns
 returns c =
-    read_all c.loop-b.n c.loop-b.b-index c.args.s.now c.loop-b-test.false (omega arith) (some c.args.s.now c.if-is-empty.ensures) c.if-s-gt-MOST-DIGITS.false lead c.loop-b.invariant.0 c.loop-b.invariant.1
+    read_all c.loop-b.n c.loop-b.b-index c.args.s.now c.loop-b-test.false (omega arith) (some c.args.s.now c.if-is_empty.ensures) c.if-s-gt-MOST_DIGITS.false lead c.loop-b.invariant.0 c.loop-b.invariant.1
   where
     lead : get_or c.args.s.now 0 0 ≡ 48 → length c.args.s.now ≡ 1
-    lead z = ⊎_elim (λ w. omega (arith, w.1, some c.args.s.now c.if-is-empty.ensures)) (λ w. absurd (w z)) c.else-s-eq48.either
+    lead z = ⊎_elim (λ w. omega (arith, w.1, some c.args.s.now c.if-is_empty.ensures)) (λ w. absurd (w z)) c.else-s-eq48.either

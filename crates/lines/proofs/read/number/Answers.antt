@@ -8,4 +8,4 @@ pub returns : goal.returns
 returns c =
     let s = c.args.s.now in
     same_reads (Decimal (rest s)) (λ n. Spaced s (n ∷ [])) c.digits.result
-    (λ n h. number_joined s n (some s c.if-is-empty.ensures) c.if-s-ne32.false h) (number_rest s) c.digits.ensures
+    (λ n h. number_joined s n (some s c.if-is_empty.ensures) c.if-s-ne32.false h) (number_rest s) c.digits.ensures

@@ -3,8 +3,8 @@ use Rattle.model.proofs.Spaces.{law_of_gaps}
 use Rattle.book.specs.Views.{task}
 use Rattle.londex.proofs.gaps.gap.Goals as goal
 
-pub returns-in-err-check-actions : goal.returns-in-err-check-actions
-returns-in-err-check-actions c = record { answers = search rules; law = law_of_gaps (task c.args.book.now.outline) c.law.ensures.lawful }
+pub returns-in_err-check_actions : goal.returns-in_err-check_actions
+returns-in_err-check_actions c = record { answers = search rules; law = law_of_gaps (task c.args.book.now.outline) c.law.ensures.lawful }
 
 pub returns : goal.returns
 returns c = record { answers = search rules; law = law_of_gaps (task c.args.book.now.outline) c.law.ensures.lawful }

@@ -7,4 +7,4 @@ use Rattle.londex.proofs.graph.arc_table.Goals as goal
 
 pub loop-v-preserved : goal.loop-v-preserved
 loop-v-preserved c =
-    filled_more (λ (k s : ℕ). Marks (Step (task c.args.book.now.outline) k) s) 0 c.loop-v.table c.loop-v.v c.arcs-from.result c.loop-v-test.true c.loop-v.invariant c.arcs-from.ensures
+    filled_more (λ (k s : ℕ). Marks (Step (task c.args.book.now.outline) k) s) 0 c.loop-v.table c.loop-v.v c.arcs_from.result c.loop-v-test.true c.loop-v.invariant c.arcs_from.ensures

@@ -33,4 +33,4 @@ pub returns : goal.returns
 returns c =
     let o = c.args.book.now.outline in
     let end : c.loop-i.i ≡ length (task o).actions = omega (arith, actions_are o c.args.book.now.wide c.args.book.now.counted) in
-    step_all (task o) c.args.v c.loop-i.i c.loop-i.added c.group-of.result end c.loop-i.invariant c.group-of.ensures
+    step_all (task o) c.args.v c.loop-i.i c.loop-i.added c.group_of.result end c.loop-i.invariant c.group_of.ensures

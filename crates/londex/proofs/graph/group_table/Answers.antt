@@ -7,4 +7,4 @@ use Rattle.londex.proofs.graph.group_table.Goals as goal
 
 pub loop-v-preserved : goal.loop-v-preserved
 loop-v-preserved c =
-    filled_more (λ (k s : ℕ). Marks (Together (task c.args.book.now.outline) k) s) 0 c.loop-v.table c.loop-v.v c.group-of.result c.loop-v-test.true c.loop-v.invariant c.group-of.ensures
+    filled_more (λ (k s : ℕ). Marks (Together (task c.args.book.now.outline) k) s) 0 c.loop-v.table c.loop-v.v c.group_of.result c.loop-v-test.true c.loop-v.invariant c.group_of.ensures

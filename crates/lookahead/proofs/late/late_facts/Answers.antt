@@ -6,15 +6,15 @@ use Rattle.model.specs.Sieves.{Subject, Late}
 use Rattle.sieve.specs.Subjects.{subject_of}
 use Rattle.lookahead.specs.Says.{late_small}
 use Rattle.lookahead.proofs.late.late_facts.Goals as goal
-use Rattle.lookahead.proofs.late.late_facts.Goals.{then-is-late, else-is-late}
+use Rattle.lookahead.proofs.late.late_facts.Goals.{then-is_late, else-is_late}
 
 pub loop-v-preserved : goal.loop-v-preserved
 loop-v-preserved c =
     let P : ℕ → Type 0 = Late (subject_of c.args.londex.now.book c.args.card.now) c.args.t in
     let v = c.loop-v.v in
-    elim c.if-is-late.branch [
-      | then-is-late w ↦ subst (λ (n : ℕ). Marks (λ k. (k < v + 1) × P k) n) (sym w.set-is) (marks_in P v c.loop-v.set c.loop-v-test.true (c.is-late.ensures.0 w.if-is-late.true) c.loop-v.invariant)
-      | else-is-late w ↦ subst (λ (n : ℕ). Marks (λ k. (k < v + 1) × P k) n) (sym w.set-is) (marks_out P v c.loop-v.set (not_from_Decides {P = P v} _ c.is-late.ensures w.if-is-late.false) c.loop-v.invariant)
+    elim c.if-is_late.branch [
+      | then-is_late w ↦ subst (λ (n : ℕ). Marks (λ k. (k < v + 1) × P k) n) (sym w.set-is) (marks_in P v c.loop-v.set c.loop-v-test.true (c.is_late.ensures.0 w.if-is_late.true) c.loop-v.invariant)
+      | else-is_late w ↦ subst (λ (n : ℕ). Marks (λ k. (k < v + 1) × P k) n) (sym w.set-is) (marks_out P v c.loop-v.set (not_from_Decides {P = P v} _ c.is_late.ensures w.if-is_late.false) c.loop-v.invariant)
     ]
 
 pub returns : goal.returns

@@ -4,6 +4,6 @@ use Rattle.reader.proofs.conditions.fits.Goals as goal
 
 pub returns-else-rests : goal.returns-else-rests
 returns-else-rests c = (
-  λ e. record { needs_one = c.share-at-most-one.ensures.0 c.if-share-at-most-one.true; moves = inr (c.moves.ensures.0 e) },
+  λ e. record { needs_one = c.share_at_most_one.ensures.0 c.if-share_at_most_one.true; moves = inr (c.moves.ensures.0 e) },
   λ f. ⊎_elim (λ r. absurd (not_from_Decides _ c.rests.ensures c.if-rests.false r)) (λ m. c.moves.ensures.1 m) f.moves,
 )

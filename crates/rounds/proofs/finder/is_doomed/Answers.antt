@@ -6,15 +6,15 @@ use Rattle.book.specs.Views.{task}
 use Rattle.book.proofs.Fronts.{bar_is, bars_are}
 use Rattle.rounds.proofs.Tables.{stuck_by}
 use Rattle.rounds.proofs.finder.is_doomed.Goals as goal
-use Rattle.rounds.proofs.finder.is_doomed.Goals.{else-is-part-via-then-is-part+else-not-meets, else-is-part-via-else-is-part}
+use Rattle.rounds.proofs.finder.is_doomed.Goals.{else-is_part-via-then-is_part+else-not-meets, else-is_part-via-else-is_part}
 
 pub loop-k-preserved : goal.loop-k-preserved
 loop-k-preserved c =
     let is = bar_is c.args.masks.now.book.outline c.loop-k.k c.loop-k-test.true in
     below_more _ _ c.loop-k.invariant
-    (λ p none. elim c.else-is-part.branch [
-      | else-is-part-via-then-is-part+else-not-meets w ↦ let m = w.meets.ensures.0 w.if-not-meets.false in none m.0 m.2
-      | else-is-part-via-else-is-part w ↦ not_from_Decides c.is_part.result c.is_part.ensures w.if-is-part.false (subst (λ (n : ℕ). Part n c.args.state) is p)
+    (λ p none. elim c.else-is_part.branch [
+      | else-is_part-via-then-is_part+else-not-meets w ↦ let m = w.meets.ensures.0 w.if-not-meets.false in none m.0 m.2
+      | else-is_part-via-else-is_part w ↦ not_from_Decides c.is_part.result c.is_part.ensures w.if-is_part.false (subst (λ (n : ℕ). Part n c.args.state) is p)
     ])
 
 pub returns-then-not-meets : goal.returns-then-not-meets
@@ -29,7 +29,7 @@ returns-then-not-meets c =
         k,
         record {
           within = within;
-          stands = subst (λ (n : ℕ). Part n c.args.state) (sym (bar_is o k c.loop-k-test.true)) (c.is_part.ensures.0 c.if-is-part.true);
+          stands = subst (λ (n : ℕ). Part n c.args.state) (sym (bar_is o k c.loop-k-test.true)) (c.is_part.ensures.0 c.if-is_part.true);
           stuck = stuck_by (task o) masks.breakers masks.breach k c.args.free within (λ m. not_from_Decides c.meets.result c.meets.ensures c.if-not-meets.true m);
         },
       );

@@ -5,11 +5,11 @@ use Rattle.sets.specs.Sets.{Part}
 use Rattle.book.proofs.Fronts.{bar_is, bars_are}
 use Rattle.rounds.proofs.steps.is_clear.Goals as goal
 
-pub returns-then-is-part : goal.returns-then-is-part
-returns-then-is-part c =
+pub returns-then-is_part : goal.returns-then-is_part
+returns-then-is_part c =
     let book = c.args.book.now in
     let k = c.loop-k.k in
-    let part = c.is_part.ensures.0 c.if-is-part.true in (
+    let part = c.is_part.ensures.0 c.if-is_part.true in (
       λ e. absurd (clash e),
       λ clear. absurd (clear k (omega (arith, bars_are book.outline book.wide book.counted)) (subst (λ (n : ℕ). Part n c.args.state) (sym (bar_is book.outline k c.loop-k-test.true)) part)),
     )
@@ -17,7 +17,7 @@ returns-then-is-part c =
 pub loop-k-preserved : goal.loop-k-preserved
 loop-k-preserved c =
     below_more _ _ c.loop-k.invariant
-    (λ p. not_from_Decides c.is_part.result c.is_part.ensures c.if-is-part.false (subst (λ (n : ℕ). Part n c.args.state) (bar_is c.args.book.now.outline c.loop-k.k c.loop-k-test.true) p))
+    (λ p. not_from_Decides c.is_part.result c.is_part.ensures c.if-is_part.false (subst (λ (n : ℕ). Part n c.args.state) (bar_is c.args.book.now.outline c.loop-k.k c.loop-k-test.true) p))
 
 pub returns : goal.returns
 returns c =

@@ -15,11 +15,11 @@ returns-then-i-count c =
     let book = c.args.book.now in
     (λ e. absurd (clash e), λ j. absurd (omega (arith, j.known, actions_are book.outline book.wide book.counted)))
 
-pub returns-then-not-is-part : goal.returns-then-not-is-part
-returns-then-not-is-part c =
+pub returns-then-not-is_part : goal.returns-then-not-is_part
+returns-then-not-is_part c =
     let is = action_is c.args.book.now.outline c.args.i c.if-i-count.false in (
       λ e. absurd (clash e),
-      λ j. absurd (not_from_Decides c.is_part.result c.is_part.ensures c.if-not-is-part.true (subst (λ (a : Action). Part a.needs c.args.state) is j.ready)),
+      λ j. absurd (not_from_Decides c.is_part.result c.is_part.ensures c.if-not-is_part.true (subst (λ (a : Action). Part a.needs c.args.state) is j.ready)),
     )
 
 pub returns-then-disturb : goal.returns-then-disturb
@@ -51,7 +51,7 @@ returns c =
     let is = action_is book.outline c.args.i c.if-i-count.false in (
       λ _. record {
         known = omega arith;
-        ready = subst (λ (a : Action). Part a.needs c.args.state) (sym is) (c.is_part.ensures.0 c.if-not-is-part.false);
+        ready = subst (λ (a : Action). Part a.needs c.args.state) (sym is) (c.is_part.ensures.0 c.if-not-is_part.false);
         calm = λ a h ne d. c.loop-j.invariant a (omega (arith, disturb_known (task book.outline) _ a d)) h ne d;
       },
       λ _. refl,

@@ -19,13 +19,13 @@ foreign l b places (y, among, lacks) = find_foreign l b places y among (⊎_elim
 all_known : (b : Task) (xs : List Booking) → (Unknown b xs → false ≡ true) → (y : Booking) → Among y xs → Has b y.action
 all_known b xs never y among = ⊎_elim (λ lt. lt) (λ le. absurd (false≢true (never (y, among, λ lt. omega arith)))) (cases_lt y.action (length b.actions))
 
-pub returns-then-has-unknown : goal.returns-then-has-unknown
-returns-then-has-unknown g c =
+pub returns-then-has_unknown : goal.returns-then-has_unknown
+returns-then-has_unknown g c =
     let x = subject_of c.args.book.now c.args.card.now in
     let strip = c.args.strip.now in
     let m = g.S.Sieve.meaning c.args.sieve.now in
     all g.met.S.Sieve.keeps x (record { lawful = c.law.ensures.lawful; sound = c.law-2.ensures }) m (g.met.S.Sieve.stands c.args.sieve.now) strip (turned_down 19) m strip
-    (foreign x.card x.task (length strip) (c.if-has-unknown.ensures.0 refl)) (refl, refl) tt
+    (foreign x.card x.task (length strip) (c.if-has_unknown.ensures.0 refl)) (refl, refl) tt
 
 pub returns-then-strip-rounds : goal.returns-then-strip-rounds
 returns-then-strip-rounds g c =
@@ -33,15 +33,15 @@ returns-then-strip-rounds g c =
     let strip = c.args.strip.now in
     let m = g.S.Sieve.meaning c.args.sieve.now in
     all g.met.S.Sieve.keeps x (record { lawful = c.law.ensures.lawful; sound = c.law-2.ensures }) m (g.met.S.Sieve.stands c.args.sieve.now) strip (turned_down 20) m strip
-    (find_short x.card x.task (length strip) (all_known x.task x.card.bookings c.if-has-unknown.ensures.1) (omega arith)) (refl, refl) tt
+    (find_short x.card x.task (length strip) (all_known x.task x.card.bookings c.if-has_unknown.ensures.1) (omega arith)) (refl, refl) tt
 
-pub returns-then-drops-standing : goal.returns-then-drops-standing
-returns-then-drops-standing g c =
+pub returns-then-drops_standing : goal.returns-then-drops_standing
+returns-then-drops_standing g c =
     let x = subject_of c.args.book.now c.args.card.now in
     let strip = c.args.strip.now in
     let m = g.S.Sieve.meaning c.args.sieve.now in
     at_once g.met.S.Sieve.keeps x (record { lawful = c.law.ensures.lawful; sound = c.law-2.ensures }) m (g.met.S.Sieve.stands c.args.sieve.now)
-    c.begin.ensures {strip = strip} (find_done x.card x.task (length strip) (all_known x.task x.card.bookings c.if-has-unknown.ensures.1) (omega arith)) (sym c.drops_standing.ensures ∙ c.if-drops-standing.true)
+    c.begin.ensures {strip = strip} (find_done x.card x.task (length strip) (all_known x.task x.card.bookings c.if-has_unknown.ensures.1) (omega arith)) (sym c.drops_standing.ensures ∙ c.if-drops_standing.true)
 
 pub visit-requires : goal.visit-requires
 visit-requires g c =
@@ -70,8 +70,8 @@ returns-then-visit g c =
     let n = z.meaning c.visit.new.sieve in
     let same : subject_on c.new-course.result ≡ x = ap₂ subject_of c.new-course.ensures.book c.new-course.ensures.card in
     by_plan g.met.S.Sieve.keeps x (record { lawful = c.law.ensures.lawful; sound = c.law-2.ensures }) (z.meaning c.args.sieve.now) (g.met.S.Sieve.stands c.args.sieve.now)
-    c.begin.ensures {strip = strip} (find_done x.card x.task (length strip) (all_known x.task x.card.bookings c.if-has-unknown.ensures.1) (omega arith)) {n = n} {left = c.visit.new.strip} {k = c.visit.new.counts}
-    (sym c.drops_standing.ensures ∙ c.if-drops-standing.false)
+    c.begin.ensures {strip = strip} (find_done x.card x.task (length strip) (all_known x.task x.card.bookings c.if-has_unknown.ensures.1) (omega arith)) {n = n} {left = c.visit.new.strip} {k = c.visit.new.counts}
+    (sym c.drops_standing.ensures ∙ c.if-drops_standing.false)
     (subst (λ (y : Subject). Found z.rules y x.task.initial 0 b zero_counts strip n c.visit.new.counts c.visit.new.strip) same c.if-visit.ensures)
 
 pub returns-else-visit : goal.returns-else-visit
@@ -83,6 +83,6 @@ returns-else-visit g c =
     let n = z.meaning c.visit.new.sieve in
     let same : subject_on c.new-course.result ≡ x = ap₂ subject_of c.new-course.ensures.book c.new-course.ensures.card in
     by_loss g.met.S.Sieve.keeps x (record { lawful = c.law.ensures.lawful; sound = c.law-2.ensures }) (z.meaning c.args.sieve.now) (g.met.S.Sieve.stands c.args.sieve.now)
-    c.begin.ensures {strip = strip} (find_done x.card x.task (length strip) (all_known x.task x.card.bookings c.if-has-unknown.ensures.1) (omega arith)) {n = n} {left = c.visit.new.strip} {k = c.visit.new.counts}
-    (sym c.drops_standing.ensures ∙ c.if-drops-standing.false)
+    c.begin.ensures {strip = strip} (find_done x.card x.task (length strip) (all_known x.task x.card.bookings c.if-has_unknown.ensures.1) (omega arith)) {n = n} {left = c.visit.new.strip} {k = c.visit.new.counts}
+    (sym c.drops_standing.ensures ∙ c.if-drops_standing.false)
     (subst (λ (y : Subject). Lost z.rules y x.task.initial 0 b zero_counts strip n c.visit.new.counts c.visit.new.strip) same c.if-visit.ensures)

@@ -9,16 +9,16 @@ use Rattle.search.specs.Visits.{Counted, Found, Lost}
 use Rattle.model.proofs.Judged.{moves}
 use Rattle.search.proofs.Steps.{shown, begins, opens_one, drops_one, fails_one, ends, wins, wrote_nothing}
 use Rattle.search.proofs.visit.+visit.Goals as goal
-use Rattle.search.proofs.visit.+visit.Goals.{then-drops-start, else-drops-start}
+use Rattle.search.proofs.visit.+visit.Goals.{then-drops_start, else-drops_start}
 
-pub returns-then-is-part : goal.returns-then-is-part
-returns-then-is-part g t c =
+pub returns-then-is_part : goal.returns-then-is_part
+returns-then-is_part g t c =
     record {
       plan = [];
       o = 1;
       d = 0;
-      walk = reached (c.if-t-rounds.true ∙ c.rounds.ensures) (c.if-is-part.ensures.0 refl);
-      counted = opens_one c.args.counts.now c.saturating-add-counts.ensures (omega arith);
+      walk = reached (c.if-t-rounds.true ∙ c.rounds.ensures) (c.if-is_part.ensures.0 refl);
+      counted = opens_one c.args.counts.now c.saturating_add-counts.ensures (omega arith);
       wrote = wrote_nothing c.args.strip.now c.args.t;
     }
 
@@ -27,7 +27,7 @@ told-requires g t c =
     let z = g.S.Sieve in
     let x = subject_on c.args.course.now in
     let m = z.meaning c.args.sieve.now in
-    let w : Walk z.rules x (at c.args.state c.args.t) m None 1 0 (z.rules.told m c.args.state c.args.t) = missed {state = c.args.state} {t = c.args.t} (c.if-t-rounds.true ∙ c.rounds.ensures) (λ part. false≢true (c.if-is-part.ensures.1 part)) in
+    let w : Walk z.rules x (at c.args.state c.args.t) m None 1 0 (z.rules.told m c.args.state c.args.t) = missed {state = c.args.state} {t = c.args.t} (c.if-t-rounds.true ∙ c.rounds.ensures) (λ part. false≢true (c.if-is_part.ensures.1 part)) in
     record {
       x = x;
       known = c.requires.known;
@@ -44,8 +44,8 @@ returns-then-t-rounds g t c =
     record {
       o = 1;
       d = 0;
-      walk = subst (λ n. Walk z.rules x (at c.args.state c.args.t) m None 1 0 n) (sym c.told.ensures) (missed {state = c.args.state} {t = c.args.t} (c.if-t-rounds.true ∙ c.rounds.ensures) (λ part. false≢true (c.if-is-part.ensures.1 part)));
-      counted = opens_one c.args.counts.now c.saturating-add-counts.ensures (omega arith);
+      walk = subst (λ n. Walk z.rules x (at c.args.state c.args.t) m None 1 0 n) (sym c.told.ensures) (missed {state = c.args.state} {t = c.args.t} (c.if-t-rounds.true ∙ c.rounds.ensures) (λ part. false≢true (c.if-is_part.ensures.1 part)));
+      counted = opens_one c.args.counts.now c.saturating_add-counts.ensures (omega arith);
       wrote = refl;
     }
 
@@ -53,17 +53,17 @@ pub loop-round-init : goal.loop-round-init
 loop-round-init g t c =
     (c.requires.known, c.requires.begun, refl, begins c.args.state c.args.t (g.S.Sieve.meaning c.args.sieve.now) _ (omega arith) (omega arith))
 
-pub loop-round-preserved-then-drops-standing : goal.loop-round-preserved-then-drops-standing
-loop-round-preserved-then-drops-standing g t c =
+pub loop-round-preserved-then-drops_standing : goal.loop-round-preserved-then-drops_standing
+loop-round-preserved-then-drops_standing g t c =
     let z = g.S.Sieve in
     let x = subject_on c.args.course.now in
     let n = z.meaning c.loop-round.sieve in
     let r = c.in-Some.round in
-    let more : Counted c.loop-round.counts 0 1 (record { opened = c.loop-round.counts.opened; dropped = c.saturating-add-counts-then-drops-standing.result }) = record { opened = omega arith; dropped = c.saturating-add-counts-then-drops-standing.ensures } in
+    let more : Counted c.loop-round.counts 0 1 (record { opened = c.loop-round.counts.opened; dropped = c.saturating_add-counts-then-drops_standing.result }) = record { opened = omega arith; dropped = c.saturating_add-counts-then-drops_standing.ensures } in
     let why : (z.rules.drops_start n c.args.state c.args.t r ≡ true) ⊎ (z.rules.drops_standing n (next x.task c.args.state r) (suc c.args.t) ≡ true) =
-    elim c.if-drops-start.branch [
-      | then-drops-start w ↦ inl (sym c.drops_start.ensures ∙ w.if-drops-start.true)
-      | else-drops-start w ↦ let e : w.drops_standing.result ≡ true = cc in inr (ap₂ (λ (s u : ℕ). z.rules.drops_standing n s u) (sym c.next-state-next.ensures) (sym (add-one c.args.t)) ∙ sym w.drops_standing.ensures ∙ e)
+    elim c.if-drops_start.branch [
+      | then-drops_start w ↦ inl (sym c.drops_start.ensures ∙ w.if-drops_start.true)
+      | else-drops_start w ↦ let e : w.drops_standing.result ≡ true = cc in inr (ap₂ (λ (s u : ℕ). z.rules.drops_standing n s u) (sym c.next_state-next.ensures) (sym (add-one c.args.t)) ∙ sym w.drops_standing.ensures ∙ e)
     ] in
     (c.loop-round.invariant.0, c.loop-round.invariant.1, c.loop-round.invariant.2, drops_one c.loop-round.invariant.3 r _ c.in-Some.ensures why more)
 
@@ -72,7 +72,7 @@ visit-requires g t c κs within =
     let x = subject_on c.args.course.now in
     let first : FirstFrom x c.args.state c.args.t (past c.loop-round.after) c.in-Some.round = c.in-Some.ensures in
     let st = moves x c.requires.genuine c.args.state c.args.t c.in-Some.round c.requires.standing (omega arith) first.1 in
-    let here : Standing x c.next-state-next.result (c.args.t + 1) = subst (λ s. Standing x s (c.args.t + 1)) (sym c.next-state-next.ensures) (st.0, omega arith) in
+    let here : Standing x c.next_state-next.result (c.args.t + 1) = subst (λ s. Standing x s (c.args.t + 1)) (sym c.next_state-next.ensures) (st.0, omega arith) in
     let room : x.card.rounds ≤ length c.loop-round.strip = omega arith in
     (search rules, (within, (c.requires.genuine, (c.requires.charged, (here, (room, (c.loop-round.invariant.0, c.loop-round.invariant.1)))))))
 
@@ -83,13 +83,13 @@ returns-then-visit g t c =
     let n = z.meaning c.loop-round.sieve in
     let r = c.in-Some.round in
     let both : (z.rules.drops_start n c.args.state c.args.t r ≡ false) × (z.rules.drops_standing n (next x.task c.args.state r) (suc c.args.t) ≡ false) =
-    elim c.if-drops-start.branch [
-      | then-drops-start w ↦ let e : ◌≡◌ {A = ℕ} 0 1 = cc in absurd (omega arith)
-      | else-drops-start w ↦ let e : w.drops_standing.result ≡ false = cc in (sym c.drops_start.ensures ∙ w.if-drops-start.false, ap₂ (λ (s u : ℕ). z.rules.drops_standing n s u) (sym c.next-state-next.ensures) (sym (add-one c.args.t)) ∙ sym w.drops_standing.ensures ∙ e)
+    elim c.if-drops_start.branch [
+      | then-drops_start w ↦ let e : ◌≡◌ {A = ℕ} 0 1 = cc in absurd (omega arith)
+      | else-drops_start w ↦ let e : w.drops_standing.result ≡ false = cc in (sym c.drops_start.ensures ∙ w.if-drops_start.false, ap₂ (λ (s u : ℕ). z.rules.drops_standing n s u) (sym c.next_state-next.ensures) (sym (add-one c.args.t)) ∙ sym w.drops_standing.ensures ∙ e)
     ] in
-    let one = opens_one c.args.counts.now c.saturating-add-counts.ensures (omega arith) in
+    let one = opens_one c.args.counts.now c.saturating_add-counts.ensures (omega arith) in
     let deeper : Found z.rules x (next x.task c.args.state r) (suc c.args.t) n c.loop-round.counts c.loop-round.strip (z.meaning c.visit.new.sieve) c.visit.new.counts c.visit.new.strip =
-    subst₂ (λ (s u : ℕ). Found z.rules x s u n c.loop-round.counts c.loop-round.strip (z.meaning c.visit.new.sieve) c.visit.new.counts c.visit.new.strip) c.next-state-next.ensures (add-one c.args.t) c.if-visit.ensures in
+    subst₂ (λ (s u : ℕ). Found z.rules x s u n c.loop-round.counts c.loop-round.strip (z.meaning c.visit.new.sieve) c.visit.new.counts c.visit.new.strip) c.next_state-next.ensures (add-one c.args.t) c.if-visit.ensures in
     wins c.loop-round.invariant.3 r (omega arith) c.requires.room one c.in-Some.ensures both.0 both.1 c.loop-round.invariant.2 deeper
 
 pub loop-round-preserved : goal.loop-round-preserved
@@ -100,12 +100,12 @@ loop-round-preserved g t c =
     let r = c.in-Some.round in
     let first : FirstFrom x c.args.state c.args.t (past c.loop-round.after) r = c.in-Some.ensures in
     let both : (z.rules.drops_start n c.args.state c.args.t r ≡ false) × (z.rules.drops_standing n (next x.task c.args.state r) (suc c.args.t) ≡ false) =
-    elim c.if-drops-start.branch [
-      | then-drops-start w ↦ let e : ◌≡◌ {A = ℕ} 0 1 = cc in absurd (omega arith)
-      | else-drops-start w ↦ let e : w.drops_standing.result ≡ false = cc in (sym c.drops_start.ensures ∙ w.if-drops-start.false, ap₂ (λ (s u : ℕ). z.rules.drops_standing n s u) (sym c.next-state-next.ensures) (sym (add-one c.args.t)) ∙ sym w.drops_standing.ensures ∙ e)
+    elim c.if-drops_start.branch [
+      | then-drops_start w ↦ let e : ◌≡◌ {A = ℕ} 0 1 = cc in absurd (omega arith)
+      | else-drops_start w ↦ let e : w.drops_standing.result ≡ false = cc in (sym c.drops_start.ensures ∙ w.if-drops_start.false, ap₂ (λ (s u : ℕ). z.rules.drops_standing n s u) (sym c.next_state-next.ensures) (sym (add-one c.args.t)) ∙ sym w.drops_standing.ensures ∙ e)
     ] in
     let deeper : Lost z.rules x (next x.task c.args.state r) (suc c.args.t) n c.loop-round.counts c.loop-round.strip (z.meaning c.visit.new.sieve) c.visit.new.counts c.visit.new.strip =
-    subst₂ (λ (s u : ℕ). Lost z.rules x s u n c.loop-round.counts c.loop-round.strip (z.meaning c.visit.new.sieve) c.visit.new.counts c.visit.new.strip) c.next-state-next.ensures (add-one c.args.t) c.if-visit.ensures in
+    subst₂ (λ (s u : ℕ). Lost z.rules x s u n c.loop-round.counts c.loop-round.strip (z.meaning c.visit.new.sieve) c.visit.new.counts c.visit.new.strip) c.next_state-next.ensures (add-one c.args.t) c.if-visit.ensures in
     let ok = c.requires.genuine in
     let good = (shown g.met.S.Sieve.keeps x ok deeper.walk c.loop-round.invariant.0 c.loop-round.invariant.1 (moves x ok c.args.state c.args.t r c.requires.standing (omega arith) first.1)).1 in
     (good.0, good.1, deeper.wrote ∙ c.loop-round.invariant.2, fails_one c.loop-round.invariant.3 r first both.0 both.1 deeper)
@@ -114,8 +114,8 @@ pub told-requires-2 : goal.told-requires-2
 told-requires-2 g t c =
     let z = g.S.Sieve in
     let x = subject_on c.args.course.now in
-    let one = opens_one c.args.counts.now c.saturating-add-counts.ensures (omega arith) in
-    let lost = ends c.loop-round.invariant.3 {before = []} {after = []} (omega arith) one c.in-default.ensures refl in
+    let one = opens_one c.args.counts.now c.saturating_add-counts.ensures (omega arith) in
+    let lost = ends c.loop-round.invariant.3 {before = []} {after = []} (omega arith) one c.in_default.ensures refl in
     record {
       x = x;
       known = c.loop-round.invariant.0;
@@ -128,6 +128,6 @@ pub returns : goal.returns
 returns g t c =
     let z = g.S.Sieve in
     let x = subject_on c.args.course.now in
-    let one = opens_one c.args.counts.now c.saturating-add-counts.ensures (omega arith) in
+    let one = opens_one c.args.counts.now c.saturating_add-counts.ensures (omega arith) in
     subst (λ n. Lost z.rules x c.args.state c.args.t (z.meaning c.args.sieve.now) c.args.counts.now c.args.strip.now n c.loop-round.counts c.loop-round.strip) (sym c.told-2.ensures)
-    (ends c.loop-round.invariant.3 (omega arith) one c.in-default.ensures c.loop-round.invariant.2)
+    (ends c.loop-round.invariant.3 (omega arith) one c.in_default.ensures c.loop-round.invariant.2)

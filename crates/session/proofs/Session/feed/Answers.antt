@@ -8,9 +8,9 @@ use Rattle.session.specs.Sessions.{Follows}
 use Rattle.session.proofs.Streams.{feed_more}
 use Rattle.session.proofs.Session.feed.Goals as goal
 
-pub returns-in-err-take : goal.returns-in-err-take
-returns-in-err-take c =
-    let p = err_from_is_err_and c.from-residual.result c.from-residual.ensures.1 in
+pub returns-in_err-take : goal.returns-in_err-take
+returns-in_err-take c =
+    let p = err_from_is_err_and c.from_residual.result c.from_residual.ensures.1 in
     record { tables = c.take.ensures.tables ∙ c.loop-b.invariant.0; follows = rw p.1 tt }
 
 pub loop-b-init : goal.loop-b-init
@@ -30,7 +30,7 @@ loop-b-preserved c = (
   λ typed printed f.
       feed_more (task c.loop-b.self.londex.book.outline) (task c.take.new.self.londex.book.outline) (ap (λ (x : Londex). task x.book.outline) c.take.ensures.tables)
       c.args.block.now c.loop-b.b-index c.loop-b-test.true (held c.loop-b.self.line) (held c.take.new.self.line) typed printed
-      (string_bytes c.args.out.now) (string_bytes c.loop-b.out) (string_bytes c.take.new.out) c.in-ok-take.ensures.takes (c.loop-b.invariant.1 typed printed f),
+      (string_bytes c.args.out.now) (string_bytes c.loop-b.out) (string_bytes c.take.new.out) c.in_ok-take.ensures.takes (c.loop-b.invariant.1 typed printed f),
 )
 
 pub returns : goal.returns

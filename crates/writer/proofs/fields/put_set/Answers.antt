@@ -6,5 +6,5 @@ use Rattle.writer.proofs.fields.put_set.Goals as goal
 pub returns : goal.returns
 unfolding set_bytes
 returns c =
-    let same : c.copy-from-slice.new.self ≡ set_bytes c.args.s = cc (c.copy-from-slice.ensures.after, c.to-le-bytes.ensures) in
-    put_part c.args.out.now c.copy-from-slice.new.self (set_bytes c.args.s) c.args.at 8 same refl
+    let same : c.copy_from_slice.new.self ≡ set_bytes c.args.s = cc (c.copy_from_slice.ensures.after, c.to_le_bytes.ensures) in
+    put_part c.args.out.now c.copy_from_slice.new.self (set_bytes c.args.s) c.args.at 8 same refl

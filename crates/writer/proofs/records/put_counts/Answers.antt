@@ -4,6 +4,6 @@ use Rattle.writer.proofs.records.put_counts.Goals as goal
 
 pub returns : goal.returns
 returns c =
-    put_then (omega (arith, c.requires)) c.put-byte-actions-at.ensures
-    (put_then (omega (arith, c.requires, c.put-byte-actions-at.ensures.stop)) c.put-byte-groups-at.ensures
-    (put_then (omega (arith, c.requires, c.put-byte-actions-at.ensures.stop, c.put-byte-groups-at.ensures.stop)) c.put-byte-bars-at.ensures c.put-byte.ensures))
+    put_then (omega (arith, c.requires)) c.put_byte-actions_at.ensures
+    (put_then (omega (arith, c.requires, c.put_byte-actions_at.ensures.stop)) c.put_byte-groups_at.ensures
+    (put_then (omega (arith, c.requires, c.put_byte-actions_at.ensures.stop, c.put_byte-groups_at.ensures.stop)) c.put_byte-bars_at.ensures c.put_byte.ensures))

@@ -9,13 +9,13 @@ use Rattle.writer.proofs.tables.put_actions.Goals as goal
 pub loop-a-init : goal.loop-a-init
 loop-a-init c = put_none c.args.out.now c.args.at
 
-pub put-action-next-requires : goal.put-action-next-requires
-put-action-next-requires c = omega (arith, c.requires, c.loop-a.invariant.stop, joined_room action_bytes c.args.actions.now c.loop-a.a-index idle c.loop-a-test.true)
+pub put_action-next-requires : goal.put_action-next-requires
+put_action-next-requires c = omega (arith, c.requires, c.loop-a.invariant.stop, joined_room action_bytes c.args.actions.now c.loop-a.a-index idle c.loop-a-test.true)
 
 pub loop-a-preserved : goal.loop-a-preserved
 loop-a-preserved c =
     rw (joined_step action_bytes c.args.actions.now c.loop-a.a-index idle c.loop-a-test.true)
-    (put_then (omega (arith, c.requires)) c.loop-a.invariant c.put-action-next.ensures)
+    (put_then (omega (arith, c.requires)) c.loop-a.invariant c.put_action-next.ensures)
 
 pub returns : goal.returns
 returns c = rw (take_all c.loop-a.a-index c.args.actions.now c.loop-a-test.false) at c.loop-a.invariant

@@ -8,8 +8,8 @@ use Rattle.card.proofs.Actions.{actions_with, actions_without}
 use Rattle.card.proofs.bookings.Bookings.actions_in.Goals as goal
 use Rattle.card.proofs.bookings.Bookings.actions_in.Goals.{then-b-round, else-b-round}
 
-pub overflow-shl-actions : goal.overflow-shl-actions
-overflow-shl-actions c =
+pub overflow_shl-actions : goal.overflow_shl-actions
+overflow_shl-actions c =
     let s = c.args.self.now in
     let b = get_or s.slots c.loop-i.i (slot 0 0) in
     omega (arith, c.requires.small b (c.loop-i.i, front_to s.len s.slots b c.loop-i.i (omega arith) (omega arith) refl))

@@ -2,8 +2,8 @@ use Rattle.std.proofs.Common.{refl}
 use Rattle.lines.proofs.Plans.{kept_fit, kept}
 use Rattle.lines.proofs.plan.Plan.new.Goals as goal
 
-pub invariant-of-result : goal.invariant-of-result
-invariant-of-result c = (kept_fit c.args.rounds.now _ c.copy-from-slice.new.self c.min-len.result refl c.min-len.ensures c.copy-from-slice.ensures.after, tt)
+pub invariant_of-result : goal.invariant_of-result
+invariant_of-result c = (kept_fit c.args.rounds.now _ c.copy_from_slice.new.self c.min-len.result refl c.min-len.ensures c.copy_from_slice.ensures.after, tt)
 
 pub returns : goal.returns
-returns c = kept c.args.rounds.now _ c.copy-from-slice.new.self c.min-len.result refl c.min-len.ensures c.copy-from-slice.ensures.after
+returns c = kept c.args.rounds.now _ c.copy_from_slice.new.self c.min-len.result refl c.min-len.ensures c.copy_from_slice.ensures.after

@@ -1,4 +1,4 @@
 use Rattle.londex.proofs.londex.Londex.new.Goals as goal
 
-pub invariant-of-result : goal.invariant-of-result
-invariant-of-result c = (∣ c.distance-table-distances.ensures ∣₁, (∣ c.gap-table-gaps.ensures ∣₁, tt))
+pub invariant_of-result : goal.invariant_of-result
+invariant_of-result c = record { charted = ∣ c.distance_table-distances.ensures ∣₁; spaced = ∣ c.gap_table-gaps.ensures ∣₁ }

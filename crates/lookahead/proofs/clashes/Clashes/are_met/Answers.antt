@@ -17,7 +17,7 @@ returns-then-meets c =
     let x : Subject = seen_as d.seen in
     let ok : Genuine x = record { lawful = c.law.ensures.lawful; sound = c.law-2.ensures } in
     let coming : c.args.t < x.card.rounds = omega (arith, c.rounds.ensures, c.if-t-rounds.false) in
-    gap_near x ok c.args.state c.args.t c.args.round d.near d.marked coming c.is-standing.result (c.meets.ensures.0 c.if-meets.true) c.is-standing.ensures
+    gap_near x ok c.args.state c.args.t c.args.round d.near d.marked coming c.is_standing.result (c.meets.ensures.0 c.if-meets.true) c.is_standing.ensures
 
 pub returns-else-meets : goal.returns-else-meets
 returns-else-meets c =

@@ -11,7 +11,7 @@ use Rattle.memory.specs.Memories.{in_order, AllLost}
 use Rattle.memory.specs.Compare.{keeps_just}
 use Rattle.memory.specs.Noting.{keeps_lost}
 use Rattle.memory.proofs.table.Table.begun.Goals as goal
-use Rattle.memory.proofs.table.Table.begun.Goals.{in-Some+else-stays, in-default}
+use Rattle.memory.proofs.table.Table.begun.Goals.{in-Some+else-stays, in_default}
 
 abbrev held : Table → List Told
 held s = in_order s.next s.len s.places
@@ -24,8 +24,8 @@ lapsed o f y is no_more =
     ap (λ o. keeps_on (seen_on o) y) is
     ∙ ⊎_elim (λ e. absurd (false≢true (no_more ((keeps_just (subject_of f.book f.card) y).0 e)))) (λ e. e) (cases_Bool (keeps (subject_of f.book f.card) y))
 
-pub invariant-of-result : goal.invariant-of-result
-invariant-of-result c =
+pub invariant_of-result : goal.invariant_of-result
+invariant_of-result c =
     let s = c.args.self in
     let y = subject_of c.args.book.now c.args.card.now in
     let e = kept s.seen c.in-Some.former y c.in-Some.is (c.if-stays.ensures.0 refl) in
@@ -38,8 +38,8 @@ returns-then-stays c =
     let e = kept s.seen c.in-Some.former y c.in-Some.is (c.if-stays.ensures.0 refl) in
     record { seen = refl; known = sym (ap (λ b. cond b (held s) []) e) }
 
-pub invariant-of-result-2 : goal.invariant-of-result-2
-invariant-of-result-2 c = ((c.args.self.ring.0, omega arith, omega arith, λ _. refl), (∣ tt ∣₁, tt))
+pub invariant_of-result-2 : goal.invariant_of-result-2
+invariant_of-result-2 c = ((c.args.self.ring.0, omega arith, omega arith, λ _. refl), (∣ tt ∣₁, tt))
 
 pub returns : goal.returns
 returns c =
@@ -48,6 +48,6 @@ returns c =
     let e : keeps_on (seen_on s.seen) y ≡ false =
     elim c.match-self.branch [
       | in-Some+else-stays w ↦ lapsed s.seen w.in-Some.former y w.in-Some.is w.if-stays.ensures.1
-      | in-default w ↦ ap (λ o. keeps_on (seen_on o) y) w.in-default.is
+      | in_default w ↦ ap (λ o. keeps_on (seen_on o) y) w.in_default.is
     ] in
     record { seen = refl; known = sym (ap (λ b. cond b (held s) []) e) }

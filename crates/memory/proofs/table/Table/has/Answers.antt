@@ -7,5 +7,5 @@ use Rattle.memory.proofs.table.Table.has.Goals as goal
 pub returns : goal.returns
 returns c =
     let x = c.args.self.now in
-    let e : c.told-among.result ≡ among same_told c.args.told (take x.len x.places) = search rules in
+    let e : c.told_among.result ≡ among same_told c.args.told (take x.len x.places) = search rules in
     e ∙ sym (among_turned told_test c.args.told x.next (take x.len x.places))

@@ -24,24 +24,24 @@ at_last s k le last e = when_around s.next s.len s.places k s.ring.0 (omega (ari
 at_next : (s : Table) (k : Told) → 128 ≤ s.len → false ≡ among same_told k (held s) → in_order (s.next + 1) 128 (set s.places s.next k) ≡ remember (held s) k
 at_next s k le e = when_full s.next s.len s.places k s.ring.0 (omega (arith, s.ring.1)) s.ring.2 (sym e)
 
-pub invariant-of-result : goal.invariant-of-result
-invariant-of-result c =
+pub invariant_of-result : goal.invariant_of-result
+invariant_of-result c =
     let s = c.args.self in
     ((length-set s.places s.len c.args.told ∙ s.ring.0, omega arith, omega arith, λ _. refl), (still s c.args.told _ c.requires (at_room s c.args.told c.if-free-lt-ROOM.true c.if-has.ensures), tt))
 
 pub returns-then-free-lt-ROOM : goal.returns-then-free-lt-ROOM
 returns-then-free-lt-ROOM c = record { seen = refl; known = at_room c.args.self c.args.told c.if-free-lt-ROOM.true c.if-has.ensures }
 
-pub invariant-of-result-then-oldest : goal.invariant-of-result-then-oldest
-invariant-of-result-then-oldest c =
+pub invariant_of-result-then-oldest : goal.invariant_of-result-then-oldest
+invariant_of-result-then-oldest c =
     let s = c.args.self in
     ((length-set s.places s.next c.args.told ∙ s.ring.0, omega arith, omega arith, λ _. refl), (still s c.args.told _ c.requires (at_last s c.args.told c.if-free-lt-ROOM.false c.if-oldest.true c.if-has.ensures), tt))
 
 pub returns-then-oldest : goal.returns-then-oldest
 returns-then-oldest c = record { seen = refl; known = at_last c.args.self c.args.told c.if-free-lt-ROOM.false c.if-oldest.true c.if-has.ensures }
 
-pub invariant-of-result-2 : goal.invariant-of-result-2
-invariant-of-result-2 c =
+pub invariant_of-result-2 : goal.invariant_of-result-2
+invariant_of-result-2 c =
     let s = c.args.self in
     let room : s.next + 1 < 128 = omega (arith, s.ring.2) in
     ((length-set s.places s.next c.args.told ∙ s.ring.0, omega arith, room, λ h. absurd (omega arith)), (still s c.args.told _ c.requires (at_next s c.args.told c.if-free-lt-ROOM.false c.if-has.ensures), tt))

@@ -31,9 +31,9 @@ loop-k-preserved c =
           (subst (λ (n : ℕ). Marks (Breaks b i) n) (sym (get_or-set_same t i v 0 room)) c.breaking.ensures),
     )
 
-pub invariant-of-result : goal.invariant-of-result
-invariant-of-result c =
+pub invariant_of-result : goal.invariant_of-result
+invariant_of-result c =
     let book = c.args.book in
     let many = actions_are book.outline book.wide book.counted in
     let bars = bars_are book.outline book.wide book.counted in
-    (∣ (λ i h. c.loop-i.invariant.1 i (omega arith)) ∣₁, (∣ (λ k h. c.loop-k.invariant.1 k (omega arith)) ∣₁, tt))
+    record { clash = ∣ (λ i h. c.loop-i.invariant.1 i (omega arith)) ∣₁; breach = ∣ (λ k h. c.loop-k.invariant.1 k (omega arith)) ∣₁ }
