@@ -1,5 +1,5 @@
 -- The lists of a task against the tables of its outline.
-use Rattle.std.proofs.Common.{◌≡◌, ℕ, ◌<◌, ◌≤◌, length, get_or, arith, length-take-le, get_or-take}
+use Rattle.std.proofs.Common.{◌≡◌, ℕ, ◌<◌, length, get_or, arith, length-take-le, get_or-take}
 use Rattle.model.specs.Tasks.{idle, action, group, bar}
 use Rattle.book.specs.declared.outline.Outline.{Outline}
 use Rattle.book.specs.Views.{task, Counted, Wide}

@@ -1,5 +1,5 @@
 -- The set of the actions booked for a round, as a loop gathers it.
-use Rattle.std.proofs.Common.{◌≡◌, ℕ, ◌+◌, ◌^◌, ◌<◌, ◌⊎◌, List, length, get_or, take, sym, ap, subst, ⊎_elim}
+use Rattle.std.proofs.Common.{◌≡◌, ℕ, ◌+◌, ◌^◌, ◌<◌, List, length, get_or, take, sym, ap, subst, ⊎_elim}
 use lib.Bits.{bit_or}
 use Rattle.sets.specs.Sets.{In}
 use Rattle.sets.proofs.Members.{in_or, or_left, or_right, single_is, single_has}

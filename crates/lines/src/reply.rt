@@ -44,6 +44,7 @@ impl fmt::Display for Reply {
 pub fn push_reply(out: &mut String, reply: Reply) -> Result<(), AllocError>
     ensures { string_bytes out.new ≡ (if is_ok result then string_bytes out.old ++ (text reply ++ (10 ∷ [])) else string_bytes out.old) }
 {
-    let line = format!(in out.allocator(); "{reply}\n")?;
+    let alloc = *out.allocator();
+    let line = format!(in alloc; "{reply}\n")?;
     out.push_str(line.as_str())
 }

@@ -1,9 +1,9 @@
 -- In lawful rounds no two steps stand closer than their gap.
-use Rattle.std.proofs.Common.{◌≡◌, ℕ, zero, suc, ◌+◌, ◌-◌, ◌<◌, ◌≤◌, ◌⊎◌, List, [], ◌∷◌, length, get_or, Some, None, Option, sym, refl, ap, ◌∙◌, subst, inl, inr, ⊎_elim, add-zero, add-suc, suc-add, arith}
-use Rattle.std.proofs.lemmas.Bool.{cases_eq, cases_lt}
+use Rattle.std.proofs.Common.{◌≡◌, ℕ, zero, suc, ◌+◌, ◌-◌, ◌<◌, ◌≤◌, List, [], ◌∷◌, length, get_or, Some, None, Option, sym, ◌∙◌, subst, inl, inr, ⊎_elim, add-zero, arith}
+use Rattle.std.proofs.lemmas.Bool.{cases_eq}
 use Rattle.sets.specs.Sets.{In}
-use Rattle.model.specs.Tasks.{Task, action, Has, group, Lawful}
-use Rattle.model.specs.Plans.{Disturb, next, Round, Run, state_at, Valid, OneOfEach}
+use Rattle.model.specs.Tasks.{Task, action, group, Lawful}
+use Rattle.model.specs.Plans.{Disturb, next, Round, Run, state_at, OneOfEach}
 use Rattle.model.specs.Distances.{Arc, PathOf, Distance}
 use Rattle.model.specs.Gaps.{UpTo, Far, Rule, A1, A2, B1, B2, B3, B4, By, Forbidden, Gap, Closer}
 use Rattle.model.specs.Spacing.{LawOfGaps}

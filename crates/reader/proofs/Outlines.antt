@@ -1,14 +1,14 @@
 -- An outline that is read keeps the limits, and one that breaks no condition is lawful.
-use Rattle.std.proofs.Common.{◌≡◌, ℕ, ◌^◌, ◌<◌, ◌≤◌, ◌⊎◌, List, length, get_or, Ok, Err, sym, refl, ap, ◌∙◌, subst, inl, inr, ⊎_elim, arith}
+use Rattle.std.proofs.Common.{◌≡◌, ℕ, ◌^◌, ◌<◌, ◌≤◌, ◌⊎◌, List, length, Ok, Err, sym, refl, ap, subst, inl, inr, ⊎_elim, arith}
 use lib.Bits.{bit_and}
 use lib.Count.{ones}
 use Rattle.std.proofs.lemmas.Bool.{cases_eq}
 use Rattle.std.specs.Result.{result_map_both}
-use Rattle.sets.specs.Sets.{In, Part, Apart, One}
+use Rattle.sets.specs.Sets.{In, Apart, One}
 use Rattle.sets.proofs.Members.{out_or_in}
 use Rattle.sets.proofs.Counts.{one_from, one_to}
 use Rattle.model.specs.declared.Action.{Action}
-use Rattle.model.specs.Tasks.{Task, Lawful, Fits, Has, idle, action, group, bar}
+use Rattle.model.specs.Tasks.{Lawful, Fits, Has, idle, action, group}
 use Rattle.faults.specs.declared.Record.TheVariants.{Head, Action as InAction}
 use Rattle.faults.specs.declared.Fault.{Fault}
 use Rattle.faults.specs.declared.Fault.TheVariants.{Field, AddsAndDeletes, SharedGroup, NotOneAtStart, BrokenGroup, BarAtStart}
@@ -19,7 +19,7 @@ use Rattle.faults.specs.Faults.{Breaks}
 use Rattle.reader.specs.Formats.{Read, read_counts, read_ends, read_action, read_set, read_table, part_record, read_end, read_outline, outline_of}
 use Rattle.book.proofs.Fronts.{action_is, group_is, bar_is, actions_are, groups_are, bars_are}
 use Rattle.reader.proofs.Turns.{same_value}
-use Rattle.reader.proofs.Ranges.{follow_ok, Limited, counts_range, ends_range, action_range, set_range, Known, KnownEnds, KnownAction, Tabled, table_range}
+use Rattle.reader.proofs.Ranges.{follow_ok, counts_range, ends_range, action_range, set_range, Known, KnownAction, Tabled, table_range}
 
 -- what every outline that is read keeps
 pub record Tidy (o : Outline) : Type 0 where

@@ -1,17 +1,15 @@
 -- What a read that succeeds says of its value.
-use Rattle.std.proofs.Common.{◌≡◌, ℕ, zero, suc, ◌+◌, ◌-◌, ◌/◌, ◌%◌, ◌^◌, ◌<◌, ◌≤◌, Bool, true, false, cond, ◌&&◌, eqb, ltb, leb, List, [], ◌∷◌, ◌++◌, length, get_or, replicate, Ok, Err, Result, sym, refl, ap, ◌∙◌, subst, ⊎_elim, arith, pow_pos}
+use Rattle.std.proofs.Common.{◌≡◌, ℕ, zero, suc, ◌+◌, ◌-◌, ◌/◌, ◌%◌, ◌^◌, ◌<◌, ◌≤◌, Bool, true, false, cond, ◌&&◌, eqb, ltb, leb, List, [], ◌∷◌, length, get_or, replicate, Ok, Err, Result, sym, refl, ap, ◌∙◌, subst, ⊎_elim, arith, pow_pos}
 use Rattle.std.proofs.lemmas.List.{length-append, length-replicate, get_or_append_left, get_or-append_right, get_or-replicate}
 use Rattle.std.proofs.lemmas.Bool.{cases_lt, leb-true, ltb-true, eqb-false, and_parts}
 use Rattle.model.specs.declared.Action.{Action}
-use Rattle.model.specs.Tasks.{idle}
 use Rattle.faults.specs.declared.Record.{Record}
 use Rattle.faults.specs.declared.FieldFault.{FieldFault}
 use Rattle.faults.specs.declared.FieldFault.TheVariants.{CutShort, OutOfLimits, EmptySet, UnknownFact}
-use Rattle.faults.specs.declared.Fault.{Fault}
 use Rattle.faults.specs.declared.Fault.TheVariants.{Field}
 use Rattle.reader.specs.declared.records.Counts.{Counts}
 use Rattle.reader.specs.declared.records.Ends.{Ends}
-use Rattle.reader.specs.Formats.{Read, follow, then, word, read_byte, read_count, read_map, read_set, read_optional, read_counts, read_ends, read_action, read_many, filled_up, read_table}
+use Rattle.reader.specs.Formats.{Read, follow, word, read_byte, read_count, read_map, read_set, read_optional, read_counts, read_ends, read_action, read_many, filled_up, read_table}
 use Rattle.reader.proofs.Turns.{same_value, many_length}
 
 -- ---- reads taken apart

@@ -1,5 +1,5 @@
 -- A set of 64 bits against the number of facts.
-use Rattle.std.proofs.Common.{◌≡◌, ℕ, ◌+◌, ◌*◌, ◌/◌, ◌^◌, ◌<◌, ◌≤◌, List, length, Ok, Err, refl, ap, ◌∙◌, ⊎_elim, zero-mul, arith, pow_pos, pow_mono}
+use Rattle.std.proofs.Common.{◌≡◌, ℕ, ◌+◌, ◌*◌, ◌/◌, ◌^◌, ◌<◌, ◌≤◌, List, length, Ok, Err, ap, ◌∙◌, ⊎_elim, zero-mul, arith, pow_pos, pow_mono}
 use native.Mathlib.Nat.{div-eq_of_lt, lt-div-mul-add}
 use Rattle.std.proofs.lemmas.Bool.{cases_lt, lt-ltb, le-ltb, ne_eqb}
 use Rattle.faults.specs.declared.FieldFault.{FieldFault}

@@ -1,10 +1,10 @@
 -- What the tables of a book say.
-use Rattle.std.proofs.Common.{◌≡◌, ℕ, ◌<◌, List, length, get_or, sym, subst, inl, inr, ⊎_elim, arith}
+use Rattle.std.proofs.Common.{◌≡◌, ℕ, ◌<◌, List, length, get_or, subst, inl, inr, ⊎_elim}
 use mathlib.Core.Logic.{∥∥₁_elim}
 use mathlib.Core.HLevel.{⊥_prop}
 use Rattle.std.proofs.lemmas.List.{get_or_past}
 use Rattle.std.proofs.lemmas.Bool.{cases_lt}
-use Rattle.sets.specs.Sets.{In, Part, Meet, Marks}
+use Rattle.sets.specs.Sets.{In, Part, Meet}
 use Rattle.sets.proofs.Members.{nothing_in}
 use Rattle.model.specs.declared.Action.{Action}
 use Rattle.model.specs.Tasks.{Task, idle, action, Has}

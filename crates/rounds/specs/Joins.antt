@@ -1,5 +1,5 @@
 -- Actions that can stand in one round at a state, whatever bars stand after it.
-use Rattle.std.specs.Prelude.{◌≡◌, ℕ, ◌≢◌}
+use Rattle.std.specs.Prelude.{ℕ, ◌≢◌}
 use Rattle.sets.specs.Sets.{In, Part}
 use Rattle.model.specs.Tasks.{Task, action, Has}
 use Rattle.model.specs.Plans.{Disturb}

@@ -1,6 +1,6 @@
 -- The tables kept beside a book: for each action and each bar a set of actions.
-use Rattle.std.specs.Prelude.{◌≡◌, ℕ, ◌<◌, List, length, ◌≢◌, slice_index}
-use Rattle.sets.specs.Sets.{In, Meet, Marks}
+use Rattle.std.specs.Prelude.{ℕ, ◌<◌, List, length, ◌≢◌, slice_index}
+use Rattle.sets.specs.Sets.{Meet, Marks}
 use Rattle.model.specs.Tasks.{Task, action, Has, bar}
 use Rattle.model.specs.Plans.{Disturb}
 

@@ -1,11 +1,11 @@
 -- The number of members of a set.
-use Rattle.std.proofs.Common.{◌≡◌, ℕ, zero, suc, ◌+◌, ◌/◌, ◌%◌, ◌^◌, ◌<◌, ◌≤◌, ◌⊎◌, sym, refl, ap, ◌∙◌, subst, inl, inr, ⊎_elim, arith}
+use Rattle.std.proofs.Common.{◌≡◌, ℕ, zero, suc, ◌/◌, ◌%◌, ◌<◌, ◌≤◌, sym, refl, ap, ◌∙◌, subst, ⊎_elim, arith}
 use lib.Arith.{bin_ind}
 use lib.Bits.{bit_and}
 use lib.Count.{ones, ones_step}
-use Rattle.std.proofs.lemmas.Bool.{cases_eq, cases_lt}
+use Rattle.std.proofs.lemmas.Bool.{cases_eq}
 use Rattle.sets.specs.Sets.{In, Part, One, AtMostOne}
-use Rattle.sets.proofs.Members.{digit, out_or_in, nothing_in, digit_half, some_member, in_and, and_in}
+use Rattle.sets.proofs.Members.{out_or_in, nothing_in, digit_half, some_member, in_and, and_in}
 
 -- a part has no more members, and as many only where it is the whole
 pub ones_part : (b a : ℕ) → Part a b → (ones a ≤ ones b) × (ones a ≡ ones b → a ≡ b)

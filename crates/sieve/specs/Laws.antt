@@ -1,6 +1,6 @@
 -- The law of a pair.
 use Rattle.std.specs.Prelude.{◌≡◌, ℕ, Bool, true, false, cond, Some, None, Option, refl}
-use Rattle.std.proofs.Common.{sym, ap, subst, ◌∙◌, ⊎_elim, arith}
+use Rattle.std.proofs.Common.{sym, ap, ◌∙◌, ⊎_elim, arith}
 use Rattle.std.proofs.lemmas.Bool.{and_parts, or_cases}
 use Rattle.model.specs.Sieves.{Subject, Rules, Law}
 use Rattle.sieve.specs.Kinds.{Both, both_rules, BothWhole, BothKept}

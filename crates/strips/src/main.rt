@@ -3,8 +3,8 @@
 
 use book::book::Book;
 use card::Card;
-use check::check;
-use check::flaws::Flaw;
+use plan_check::check;
+use plan_check::flaws::Flaw;
 use reader::read::read;
 use rounds::finder::round_after;
 use rounds::masks::Masks;

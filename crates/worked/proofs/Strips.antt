@@ -8,9 +8,9 @@ use Rattle.model.specs.declared.Action.{Action}
 use Rattle.model.specs.Tasks.{Task, Has, action, bar}
 use Rattle.model.specs.Plans.{Disturb, next, Clear, Round, Run, state_at, Valid}
 use Rattle.model.specs.Ledgers.{Among}
-use Rattle.check.specs.declared.flaws.Flaw.{Flaw}
-use Rattle.check.specs.declared.flaws.Flaw.TheVariants.{StripLength, UnknownAction, MissingBooking, UnmetNeed, Disturbance, BarAfter, GoalMissed}
-use Rattle.check.specs.Flaws.{flaw_number, flaw_round, flaw_first, flaw_second, RoundFlaw, Fails, wrong_length, in_round, misses, Sooner, Checks}
+use Rattle.plan_check.specs.declared.flaws.Flaw.{Flaw}
+use Rattle.plan_check.specs.declared.flaws.Flaw.TheVariants.{StripLength, UnknownAction, MissingBooking, UnmetNeed, Disturbance, BarAfter, GoalMissed}
+use Rattle.plan_check.specs.Flaws.{flaw_number, flaw_round, flaw_first, flaw_second, RoundFlaw, Fails, wrong_length, in_round, misses, Sooner, Checks}
 use Rattle.worked.specs.Sample.{sample, five_rounds}
 
 -- ---- tests over the members of a set

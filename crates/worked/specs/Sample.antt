@@ -6,8 +6,8 @@ use Rattle.model.specs.Distances.{Distance}
 use Rattle.model.specs.Gaps.{Gap}
 use Rattle.model.specs.Plans.{Valid}
 use Rattle.model.specs.Ledgers.{Ledger}
-use Rattle.check.specs.declared.flaws.Flaw.TheVariants.{BarAfter}
-use Rattle.check.specs.Flaws.{Checks}
+use Rattle.plan_check.specs.declared.flaws.Flaw.TheVariants.{BarAfter}
+use Rattle.plan_check.specs.Flaws.{Checks}
 
 abbrev pub doing : ℕ → ℕ → ℕ → Action
 doing needs adds deletes = record { needs = needs; adds = adds; deletes = deletes }

@@ -24,7 +24,7 @@ fn sample_comes_back(rt: HostRuntime) -> Result<(), Fail> {
     let n = write(&book, &mut out)?;
     assert!(rt; n == 220);
     assert_eq!(rt; &out[..n], SAMPLE);
-    assert_eq!(rt; &out[n..], &[0xee; 4]);
+    assert_eq!(rt; &out[n..], [0xee; 4].as_slice());
     let again = read(&out[..n])?;
     assert_eq!(rt; again.outline.bars, book.outline.bars);
     let mut short = [0; 219];

@@ -1,4 +1,4 @@
-use Rattle.std.proofs.Common.{◌≡◌, ℕ, ◌<◌, sym, subst, arith, below_more}
+use Rattle.std.proofs.Common.{ℕ, sym, subst, arith, below_more}
 use Rattle.std.proofs.lemmas.Bool.Decides.{not_from_Decides}
 use Rattle.sets.specs.Sets.{Part}
 use Rattle.book.proofs.Fronts.{bar_is, bars_are}

@@ -1,4 +1,4 @@
-use Rattle.std.proofs.Common.{◌≡◌, ℕ, List, Ok, Err, Result, sym, refl, ap, ◌∙◌, ap₂}
+use Rattle.std.proofs.Common.{◌≡◌, ℕ, List, Ok, Err, Result, refl, ap, ◌∙◌, ap₂}
 use Rattle.std.specs.Result.{result_map_both}
 use Rattle.faults.specs.declared.Fault.{Fault}
 use Rattle.book.specs.declared.outline.Outline.{Outline}

@@ -1,5 +1,4 @@
-use Rattle.std.proofs.Common.{◌≡◌, ℕ, ◌+◌, ◌/◌, ◌^◌, ◌<◌, ◌≤◌, length, refl, arith}
-use Rattle.reader.specs.Formats.{word}
+use Rattle.std.proofs.Common.{◌^◌, ◌<◌, refl, arith}
 use Rattle.reader.proofs.Widths.{set_known, set_unknown, low_from_shift, high_from_shift, low_from_width}
 use Rattle.reader.proofs.cursor.Reader.set.Goals as goal
 use Rattle.reader.proofs.cursor.Reader.set.Goals.{else-facts-lt64-via-then-facts-lt64+else-s-facts-ne0, else-facts-lt64-via-else-facts-lt64}

@@ -1,0 +1,45 @@
+ghost use Rattle.std.specs.Prelude.{◌≡◌};
+ghost use Rattle.plan_check.specs.Flaws.{flaw_number, flaw_round};
+
+// Why a strip is no plan. Each case has the round at fault, and the lowest action, pair or bar.
+#[derive(Clone, Copy, PartialEq, Eq, Debug)]
+pub enum Flaw {
+    StripLength,
+    UnknownAction(u8, u8),
+    MissingBooking(u8, u8),
+    UnmetNeed(u8, u8),
+    Disturbance(u8, u8, u8),
+    BarAfter(u8, u8),
+    GoalMissed(u8),
+}
+
+impl Flaw {
+    pub fn number(self) -> u8
+        ensures { result ≡ flaw_number self }
+    {
+        match self {
+            Flaw::StripLength => 23,
+            Flaw::UnknownAction(_, _) => 24,
+            Flaw::MissingBooking(_, _) => 25,
+            Flaw::UnmetNeed(_, _) => 26,
+            Flaw::Disturbance(_, _, _) => 27,
+            Flaw::BarAfter(_, _) => 28,
+            Flaw::GoalMissed(_) => 29,
+        }
+    }
+
+    // The round that the flaw names; 0 where the length is wrong.
+    pub fn round(self) -> u8
+        ensures { result ≡ flaw_round self }
+    {
+        match self {
+            Flaw::StripLength => 0,
+            Flaw::UnknownAction(t, _)
+            | Flaw::MissingBooking(t, _)
+            | Flaw::UnmetNeed(t, _)
+            | Flaw::Disturbance(t, _, _)
+            | Flaw::BarAfter(t, _)
+            | Flaw::GoalMissed(t) => t,
+        }
+    }
+}
