@@ -1,5 +1,5 @@
 -- A ring of 128 places holds the last 128 in order.
-use Rattle.std.proofs.Common.{◌≡◌, ℕ, zero, suc, ◌+◌, ◌-◌, ◌<◌, ◌≤◌, Bool, true, false, cond, List, [], ◌∷◌, ◌++◌, length, get_or, take, drop, set, sym, refl, ap, ◌∙◌, subst, ap₂, append_assoc, add-one, arith, length-append, length-drop, length-set, drop_of_length-le, length-take, length-take-le, take_all, drop-cons, take-suc-set, drop-set-lt}
+use Rattle.std.proofs.Common.{◌≡◌, ℕ, suc, ◌+◌, ◌-◌, ◌<◌, ◌≤◌, false, cond, List, [], ◌∷◌, ◌++◌, length, take, drop, set, sym, refl, ap, ◌∙◌, ap₂, append_assoc, add-one, arith, length-append, length-drop, length-set, drop_of_length-le, length-take, length-take-le, take_all, drop-cons, take-suc-set, drop-set-lt}
 use Rattle.memory.specs.declared.told.Told.{Told}
 use Rattle.memory.specs.Lists.{among}
 use Rattle.memory.specs.Memories.{same_told, newest, remember, in_order, standing}

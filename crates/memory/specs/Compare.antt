@@ -1,5 +1,5 @@
 -- What the tests on lists decide.
-use Rattle.std.specs.Prelude.{◌≡◌, ℕ, zero, suc, ◌<◌, Bool, true, false, ◌&&◌, ◌||◌, List, [], ◌∷◌, ◌++◌, length, take, drop, Decides, nat_eq, slice_index_or, refl}
+use Rattle.std.specs.Prelude.{◌≡◌, ℕ, zero, suc, ◌<◌, Bool, true, false, ◌||◌, List, [], ◌∷◌, ◌++◌, length, take, drop, Decides, slice_index_or, refl}
 use Rattle.std.proofs.Common.{sym, ap, ◌∙◌, ⊎_elim, arith, take-append-drop}
 use Rattle.std.proofs.lemmas.Bool.{eq-eqb, eqb-true, and_parts, and_from, or_cases, or_left, or_right, false≢true}
 use Rattle.std.specs.List.{ContainsAt as Has}
@@ -7,10 +7,9 @@ use Rattle.model.specs.declared.Booking.{Booking}
 use Rattle.model.proofs.Same.{Test, task_test}
 use Rattle.model.specs.Ledgers.{same, slot, Among}
 use Rattle.model.specs.Bookings.{AllOf}
-use Rattle.model.specs.Sieves.{Subject, Grew}
 use Rattle.memory.specs.declared.told.Told.{Told}
 use Rattle.memory.specs.Lists.{among, all_among}
-use Rattle.memory.specs.Keeping.{keeps, KeepsJust}
+use Rattle.memory.specs.Keeping.{KeepsJust}
 use Rattle.memory.specs.Memories.{same_told}
 
 -- two tests of one fact answer alike

@@ -1,5 +1,5 @@
 -- The law of a memory.
-use Rattle.std.specs.Prelude.{◌≡◌, ℕ, ◌-◌, Bool, true, false, cond, ◌&&◌, ◌||◌, List, [], ◌∷◌, ◌++◌, length, drop, Some, None, Option, refl}
+use Rattle.std.specs.Prelude.{◌≡◌, ◌-◌, Bool, true, false, cond, List, [], ◌∷◌, ◌++◌, length, Some, None, Option, refl}
 use Rattle.std.proofs.Common.{sym, subst, ◌∙◌, ⊎_elim}
 use Rattle.std.proofs.Math.Logic.{∥∥₁_elim, ∥∥₁_map}
 use mathlib.Core.HLevel.{⊥_prop, Π_prop, ×_prop}
@@ -14,7 +14,7 @@ use Rattle.model.proofs.Growth.{still_standing, still_hopeless}
 use Rattle.memory.specs.declared.told.Told.{Told}
 use Rattle.memory.specs.Lists.{among}
 use Rattle.memory.specs.Keeping.{keeps, keeps_on}
-use Rattle.memory.specs.Memories.{same_told, newest, remember, Lost, AllLost, LostFor, Remembered, standing, memory_rules, MemoryWhole, MemoryKept}
+use Rattle.memory.specs.Memories.{same_told, newest, remember, Lost, AllLost, LostFor, standing, memory_rules, MemoryWhole, MemoryKept}
 use Rattle.memory.specs.Compare.{told_test, among_test, keeps_just}
 
 -- what one more told, that is hopeless too, leaves remembered

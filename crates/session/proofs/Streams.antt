@@ -5,7 +5,7 @@ use Rattle.model.specs.Tasks.{Task}
 use Rattle.lines.specs.declared.reply.Reply.{Reply}
 use Rattle.lines.specs.Replies.{text}
 use Rattle.lines.proofs.Fronts.{front_commands, take_push}
-use Rattle.session.specs.Sessions.{Replies, Prints, waits, goes_on, answers, Takes, Last, Whole, Follows}
+use Rattle.session.specs.Sessions.{Replies, Prints, waits, goes_on, answers, Takes, Whole, Follows}
 
 module _ (b : Task) where
   -- one byte more, and it ends no line

@@ -13,7 +13,7 @@ returns c =
     let y = c.args.y in
     let known : y.action < o.action_count = omega arith in
     let is = action_is o y.action known in
-    let P : Action → Type 0 = λ z. SomeCloser (entry c.args.row.now) (bit_and z.needs c.args.own_val) (y.round - c.args.t) in (
+    let P : Action → Type 0 = λ z. SomeCloser (entry c.args.row.now) (bit_and z.needs c.args.own) (y.round - c.args.t) in (
       λ e. (omega (arith, actions_are o book.wide book.counted), omega arith, subst P (sym is) (c.some_beyond.ensures.0 e)),
       λ m. c.some_beyond.ensures.1 (subst P is m.2),
     )

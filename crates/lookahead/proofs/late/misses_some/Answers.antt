@@ -10,7 +10,7 @@ use Rattle.lookahead.proofs.late.misses_some.Goals as goal
 
 pub loop-y-preserved : goal.loop-y-preserved
 loop-y-preserved c =
-    let P : Booking → Type 0 = Missed (task c.args.book.now.outline) (entry c.args.row.now) c.args.own_val c.args.t in
+    let P : Booking → Type 0 = Missed (task c.args.book.now.outline) (entry c.args.row.now) c.args.own c.args.t in
     below_more _ _ c.loop-y.invariant (λ y h m. not_from_Decides {P = P c.in-Some.y} _ c.misses.ensures c.if-misses.false (subst P (sym h.1 ∙ c.in-Some.ensures.1) m))
 
 pub returns : goal.returns

@@ -8,7 +8,7 @@ use Rattle.lookahead.specs.Tables.{Missed}
 use Rattle.lookahead.proofs.late.misses_some.Given as goal
 
 abbrev pub invariant-loop-y : goal.invariant-loop-y
-invariant-loop-y l = (k : ℕ) → k < l.i → (y : Booking) → HoldsAt (ledger_of l.card).bookings k y → Missed (task l.book.outline) (entry l.row) l.own_val l.t y → ⊥
+invariant-loop-y l = (k : ℕ) → k < l.i → (y : Booking) → HoldsAt (ledger_of l.card).bookings k y → Missed (task l.book.outline) (entry l.row) l.own l.t y → ⊥
 
 abbrev pub decreases-loop-y : goal.decreases-loop-y
 decreases-loop-y l = length (ledger_of l.card).bookings - l.i

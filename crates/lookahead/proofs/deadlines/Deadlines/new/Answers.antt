@@ -20,4 +20,4 @@ loop-t-preserved c =
     )
 
 pub invariant_of-result : goal.invariant_of-result
-invariant_of-result c = (∣ (λ t h. c.loop-t.invariant.1 t (omega (arith, c.rounds-t-end.ensures))) ∣₁, tt)
+invariant_of-result c = record { marked = ∣ (λ t h. c.loop-t.invariant.1 t (omega (arith, c.rounds-t-end.ensures))) ∣₁ }

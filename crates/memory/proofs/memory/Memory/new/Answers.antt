@@ -1,4 +1,4 @@
-use Rattle.std.proofs.Common.{List, [], None, sym, refl, ap, subst}
+use Rattle.std.proofs.Common.{sym, refl, subst}
 use Rattle.sieve.specs.Subjects.{seen_on}
 use Rattle.sieve.specs.Kinds.{Fresh}
 use Rattle.memory.specs.Memories.{in_order, remembered, memory_rules}

@@ -1,4 +1,4 @@
-use Rattle.std.proofs.Common.{◌≡◌, Bool, true, false, cond, List, [], Some, Option, sym, refl, ap, ◌∙◌, subst, ⊎_elim, arith}
+use Rattle.std.proofs.Common.{◌≡◌, true, false, cond, List, [], Some, Option, sym, refl, ap, ◌∙◌, subst, ⊎_elim, arith}
 use mathlib.Core.Logic.{∥∥₁_map}
 use Rattle.std.proofs.lemmas.Bool.{cases_Bool, false≢true}
 use Rattle.model.specs.Sieves.{Subject, Grew}
@@ -29,7 +29,7 @@ invariant_of-result c =
     let s = c.args.self in
     let y = subject_of c.args.book.now c.args.card.now in
     let e = kept s.seen c.in-Some.former y c.in-Some.is (c.if-stays.ensures.0 refl) in
-    (s.ring, (∥∥₁_map s.lost (λ all. subst (AllLost (Some y)) (ap (λ b. cond b (held s) []) e) (keeps_lost (seen_on s.seen) y (held s) all)), tt))
+    record { ring = s.ring; lost = ∥∥₁_map s.lost (λ all. subst (AllLost (Some y)) (ap (λ b. cond b (held s) []) e) (keeps_lost (seen_on s.seen) y (held s) all)) }
 
 pub returns-then-stays : goal.returns-then-stays
 returns-then-stays c =
@@ -39,7 +39,7 @@ returns-then-stays c =
     record { seen = refl; known = sym (ap (λ b. cond b (held s) []) e) }
 
 pub invariant_of-result-2 : goal.invariant_of-result-2
-invariant_of-result-2 c = ((c.args.self.ring.0, omega arith, omega arith, λ _. refl), (∣ tt ∣₁, tt))
+invariant_of-result-2 c = record { ring = (c.args.self.ring.0, omega arith, omega arith, λ _. refl); lost = ∣ tt ∣₁ }
 
 pub returns : goal.returns
 returns c =

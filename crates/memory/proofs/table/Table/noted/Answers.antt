@@ -1,4 +1,4 @@
-use Rattle.std.proofs.Common.{◌≡◌, ℕ, ◌+◌, ◌<◌, ◌≤◌, false, List, length, set, sym, refl, ◌∙◌, subst, arith, length-set}
+use Rattle.std.proofs.Common.{◌≡◌, ◌+◌, ◌<◌, ◌≤◌, false, List, set, sym, refl, ◌∙◌, subst, arith, length-set}
 use mathlib.Core.Logic.{∥∥₁_map}
 use Rattle.memory.specs.declared.told.Told.{Told}
 use Rattle.memory.specs.declared.table.Table.{Table}
@@ -27,7 +27,7 @@ at_next s k le e = when_full s.next s.len s.places k s.ring.0 (omega (arith, s.r
 pub invariant_of-result : goal.invariant_of-result
 invariant_of-result c =
     let s = c.args.self in
-    ((length-set s.places s.len c.args.told ∙ s.ring.0, omega arith, omega arith, λ _. refl), (still s c.args.told _ c.requires (at_room s c.args.told c.if-free-lt-ROOM.true c.if-has.ensures), tt))
+    record { ring = (length-set s.places s.len c.args.told ∙ s.ring.0, omega arith, omega arith, λ _. refl); lost = still s c.args.told _ c.requires (at_room s c.args.told c.if-free-lt-ROOM.true c.if-has.ensures) }
 
 pub returns-then-free-lt-ROOM : goal.returns-then-free-lt-ROOM
 returns-then-free-lt-ROOM c = record { seen = refl; known = at_room c.args.self c.args.told c.if-free-lt-ROOM.true c.if-has.ensures }
@@ -35,7 +35,7 @@ returns-then-free-lt-ROOM c = record { seen = refl; known = at_room c.args.self 
 pub invariant_of-result-then-oldest : goal.invariant_of-result-then-oldest
 invariant_of-result-then-oldest c =
     let s = c.args.self in
-    ((length-set s.places s.next c.args.told ∙ s.ring.0, omega arith, omega arith, λ _. refl), (still s c.args.told _ c.requires (at_last s c.args.told c.if-free-lt-ROOM.false c.if-oldest.true c.if-has.ensures), tt))
+    record { ring = (length-set s.places s.next c.args.told ∙ s.ring.0, omega arith, omega arith, λ _. refl); lost = still s c.args.told _ c.requires (at_last s c.args.told c.if-free-lt-ROOM.false c.if-oldest.true c.if-has.ensures) }
 
 pub returns-then-oldest : goal.returns-then-oldest
 returns-then-oldest c = record { seen = refl; known = at_last c.args.self c.args.told c.if-free-lt-ROOM.false c.if-oldest.true c.if-has.ensures }
@@ -44,7 +44,7 @@ pub invariant_of-result-2 : goal.invariant_of-result-2
 invariant_of-result-2 c =
     let s = c.args.self in
     let room : s.next + 1 < 128 = omega (arith, s.ring.2) in
-    ((length-set s.places s.next c.args.told ∙ s.ring.0, omega arith, room, λ h. absurd (omega arith)), (still s c.args.told _ c.requires (at_next s c.args.told c.if-free-lt-ROOM.false c.if-has.ensures), tt))
+    record { ring = (length-set s.places s.next c.args.told ∙ s.ring.0, omega arith, room, λ h. absurd (omega arith)); lost = still s c.args.told _ c.requires (at_next s c.args.told c.if-free-lt-ROOM.false c.if-has.ensures) }
 
 pub returns : goal.returns
 returns c = record { seen = refl; known = at_next c.args.self c.args.told c.if-free-lt-ROOM.false c.if-has.ensures }

@@ -12,7 +12,7 @@ loop-round-init g c = λ p. record { wrote = writes_in_calls_nil g.W.Write.write
 pub loop-round-preserved : goal.loop-round-preserved
 loop-round-preserved g c = λ p.
     put_round g.W.Write.write_str_gives c.args.f.now c.loop-round.f c.write.new.self (planned c.args.self.now) c.rounds-round-items.result.now c.loop-round.round-index
-    c.rounds-round-items.ensures c.loop-round-test.true (c.loop-round.invariant p) (λ plain. c.in_ok-write.ensures.shows plain refl)
+    c.rounds-round-items.ensures c.loop-round-test.true (c.loop-round.invariant p) (λ plain. c.in_ok-write.ensures.writes plain refl)
 
 pub returns-clause-writes : goal.returns-clause-writes
 returns-clause-writes g c = λ p ok.
