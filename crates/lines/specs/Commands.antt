@@ -1,6 +1,6 @@
 -- Which bytes write a command.
 use Rattle.std.specs.Prelude.{◌≡◌, ℕ, ◌<◌, List, [], ◌∷◌, ◌++◌, Ok, Err, codes, decimal, Result}
-use Rattle.std.specs.List.{flat_map, AllByRecursion as All}
+use Rattle.std.specs.List.{flat_map, AllByRecursion}
 use Rattle.lines.specs.declared.command.Command.{Command}
 use Rattle.lines.specs.declared.command.Command.TheVariants.{Distance, Gap}
 use Rattle.lines.specs.declared.command.NotACommand.{NotACommand}
@@ -25,7 +25,7 @@ spaced ns = flat_map (λ n. codes " " ++ decimal n) ns
 
 -- each number has at most five digits
 abbrev pub Short : List ℕ → Type 0
-Short ns = All (λ n. n < 100000) ns
+Short ns = AllByRecursion (λ n. n < 100000) ns
 
 -- s is the numbers ns, each with a space in front and of at most five digits
 abbrev pub Spaced : List ℕ → List ℕ → Type 0

@@ -2,7 +2,7 @@
 use Rattle.std.specs.Prelude.{◌≡◌, ℕ, zero, suc, ◌<◌, Bool, true, false, ◌||◌, List, [], ◌∷◌, ◌++◌, length, take, drop, Decides, slice_index_or, refl}
 use Rattle.std.proofs.Common.{sym, ap, ◌∙◌, ⊎_elim, arith, take-append-drop}
 use Rattle.std.proofs.lemmas.Bool.{eq-eqb, eqb-true, and_parts, and_from, or_cases, or_left, or_right, false≢true}
-use Rattle.std.specs.List.{ContainsAt as Has}
+use Rattle.std.specs.List.{ContainsAt}
 use Rattle.model.specs.declared.Booking.{Booking}
 use Rattle.model.proofs.Same.{Test, task_test}
 use Rattle.model.specs.Ledgers.{same, slot, Among}
@@ -39,10 +39,10 @@ told_test x y = (
 )
 
 module _ {A : Type 0} {f : A → A → Bool} (test : Test f) where
-  pub among_test : (x : A) (ys : List A) → Decides (among f x ys) (Has ys x)
+  pub among_test : (x : A) (ys : List A) → Decides (among f x ys) (ContainsAt ys x)
   among_test x ys = (there ys, λ h. here ys h.0 h.1 h.2)
     where
-      there : (zs : List A) → among f x zs ≡ true → Has zs x
+      there : (zs : List A) → among f x zs ≡ true → ContainsAt zs x
       there [] e = absurd (false≢true e)
       there (z ∷ zs) e = ⊎_elim (λ p. (0, omega arith, λ d. (test z x).0 p)) (λ p. let r = there zs p in (suc r.0, omega (arith, r.1), λ d. r.2 d)) (or_cases _ _ e)
 

@@ -1,6 +1,6 @@
 -- What a memory of hopeless standings means.
 use Rattle.std.specs.Prelude.{◌≡◌, ℕ, ◌-◌, Bool, cond, ◌&&◌, ◌||◌, List, [], ◌∷◌, ◌++◌, length, take, drop, is_some, Some, None, Option, ◌==◌}
-use Rattle.std.specs.List.{AllByRecursion as All}
+use Rattle.std.specs.List.{AllByRecursion}
 use Rattle.model.specs.Sieves.{Subject, Standing, Hopeless, Rules}
 use Rattle.memory.specs.declared.told.Told.{Told}
 use Rattle.memory.specs.Lists.{among}
@@ -31,7 +31,7 @@ Lost x k = Standing x k.state k.t × Hopeless x k.state k.t
 -- all are hopeless for the subject; without one there are none
 abbrev pub AllLost : Option Subject → List Told → Type 0
 AllLost None known = known ≡ []
-AllLost (Some x) known = All (Lost x) known
+AllLost (Some x) known = AllByRecursion (Lost x) known
 
 abbrev pub LostFor : Option Subject → Told → Type 0
 LostFor None k = ⊥

@@ -4,7 +4,7 @@ use Rattle.std.proofs.Common.{sym, subst, ◌∙◌, ⊎_elim}
 use Rattle.std.proofs.Math.Logic.{∥∥₁_elim, ∥∥₁_map}
 use mathlib.Core.HLevel.{⊥_prop, Π_prop, ×_prop}
 use Rattle.std.proofs.Math.Bridge.{le_prop}
-use Rattle.std.specs.List.{AllByRecursion as All}
+use Rattle.std.specs.List.{AllByRecursion}
 use Rattle.std.proofs.ByRecursion.{All-push, All-drop, All-weaker, all-has}
 use Rattle.std.proofs.lemmas.Bool.{and_parts, or_cases}
 use Rattle.model.specs.Tasks.{group}
@@ -22,7 +22,7 @@ pub remember_lost : (o : Option Subject) (known : List Told) (k : Told) → AllL
 remember_lost None known k all lost = absurd lost
 remember_lost (Some x) known k all lost = by_among (among same_told k known)
   where
-    by_among : (b : Bool) → All (Lost x) (cond b known (newest (known ++ (k ∷ []))))
+    by_among : (b : Bool) → AllByRecursion (Lost x) (cond b known (newest (known ++ (k ∷ []))))
     by_among true = all
     by_among false = All-drop (Lost x) (length (known ++ (k ∷ [])) - 128) (known ++ (k ∷ [])) (All-push (Lost x) known k all lost)
 
@@ -31,7 +31,7 @@ pub keeps_lost : (o : Option Subject) (y : Subject) (known : List Told) → AllL
 keeps_lost None y known all = tt
 keeps_lost (Some x) y known all = by_keeps (keeps x y) refl
   where
-    by_keeps : (b : Bool) → keeps x y ≡ b → All (Lost y) (cond b known [])
+    by_keeps : (b : Bool) → keeps x y ≡ b → AllByRecursion (Lost y) (cond b known [])
     by_keeps true e = let g = (keeps_just x y).0 e in All-weaker (Lost x) (Lost y) (λ k l. (still_standing x y g k.state k.t l.0, still_hopeless x y g k.state k.t l.1)) known all
     by_keeps false e = tt
 
