@@ -40,7 +40,7 @@ pub decimal_front : (s : List ℕ) (n : ℕ) → Decimal s n → get_or s 0 0 �
 decimal_front s n (h, e) z =
     ⊎_elim
     (λ k. absurd (omega (arith, first_decimal n k (fits n h), sym (ap (λ l. get_or l 0 0) e) ∙ z)))
-    (λ k. let zero-n : n ≡ 0 = omega arith in ap length (e ∙ ap decimal zero-n ∙ decimal_digit 0 (omega arith)))
+    (λ k. let zero_n : n ≡ 0 = omega arith in ap length (e ∙ ap decimal zero_n ∙ decimal_digit 0 (omega arith)))
     (cases_lt 0 n)
 
 pub decimal_digits : (s : List ℕ) (n : ℕ) → Decimal s n → AllDigits s

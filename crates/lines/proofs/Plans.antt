@@ -27,9 +27,9 @@ module _ (rs zs ys : List ℕ) (n : ℕ) (room : length zs ≡ 32) (most : n ≡
 
 spaced_more : (ns ms : List ℕ) (i : ℕ) → ms ≡ ns → i < length ms → spaced (take i ns) ++ (codes " " ++ decimal (get_or ms i 0)) ≡ spaced (take (i + 1) ns)
 spaced_more ns ms i e l =
-    let in-ns : i < length ns = omega (arith, ap length e) in
+    let in_ns : i < length ns = omega (arith, ap length e) in
     flat_map_more (λ n. codes " " ++ decimal n) [] (take i ns) (get_or ms i 0)
-    ∙ ap spaced (ap (λ (ls : List ℕ). take i ns ++ (get_or ls i 0 ∷ [])) e ∙ sym (take_more ns i 0 in-ns))
+    ∙ ap spaced (ap (λ (ls : List ℕ). take i ns ++ (get_or ls i 0 ∷ [])) e ∙ sym (take_more ns i 0 in_ns))
 
 -- one round more is written
 pub put_round : {W : Type 0} (took : W → List ℕ → W → Type 0) (f g h : Formatter W) (ns ms : List ℕ) (i : ℕ) → ms ≡ ns → i < length ms

@@ -80,8 +80,8 @@ module _ (b : Task) (ok : Lawful b) (own : ℕ → ℕ) (grouped : Grouped b own
     near_small : (w : ℕ) → In w near → w < 64
     near_small w h =
         let l = nearby.only w h in
-        let v-small = ⊎_elim (λ k. in_below 64 l.0 x.adds (member_small a ha).1 k) (λ k. in_below 64 l.0 x.needs (member_small a ha).0 k) (in_or l.0 x.adds x.needs l.1) in
-        let both = (grouped l.0 v-small).only w l.2 in
+        let v_small = ⊎_elim (λ k. in_below 64 l.0 x.adds (member_small a ha).1 k) (λ k. in_below 64 l.0 x.needs (member_small a ha).0 k) (in_or l.0 x.adds x.needs l.1) in
+        let both = (grouped l.0 v_small).only w l.2 in
         fact_small b ok both.0 w both.1 both.3
 
     near_has : (v w : ℕ) → In v (bit_or x.adds x.needs) → Together b v w → In w near

@@ -4,7 +4,7 @@ use Rattle.std.proofs.Common.{subst}
 use Rattle.std.proofs.lemmas.Bool.{false≢true}
 use Rattle.model.specs.Sieves.{Subject, Genuine, Standing, Hopeless, HopelessStart, Law}
 use Rattle.model.proofs.Drops.{goal_hopeless, gap_hopeless}
-use Rattle.sieve.specs.Kinds.{always}
+use Rattle.sieve.specs.Kinds.{Always}
 use Rattle.lookahead.specs.Tests.{goal_test, gap_test}
 use Rattle.lookahead.specs.Kinds.{with_subject, goal_rules, gap_rules, Real}
 use Rattle.lookahead.specs.Says.{goal_says, gap_says}
@@ -23,7 +23,7 @@ module _ (m : Option Subject) (x : Subject) (real : Real m) (of_x : m ≡ Some x
       let drops = (gap_says x (real x of_x) state t round).0 (subst (λ (o : Option Subject). with_subject (λ y. gap_test y state t round) o ≡ true) of_x h) in
       (drops.0, gap_hopeless x (real x of_x) state t round drops)
 
-pub goal_law : Law goal_rules always Real
+pub goal_law : Law goal_rules Always Real
 goal_law = record {
   begins = λ m x. refl;
   leaves = λ m x _ ok. real_some x ok;
@@ -34,7 +34,7 @@ goal_law = record {
   starts = λ m x state t round real of_x h. absurd (false≢true h);
 }
 
-pub gap_law : Law gap_rules always Real
+pub gap_law : Law gap_rules Always Real
 gap_law = record {
   begins = λ m x. refl;
   leaves = λ m x _ ok. real_some x ok;

@@ -1,6 +1,6 @@
 ghost use Rattle.std.specs.Prelude.{Option};
 ghost use Rattle.model.specs.Sieves.{Subject};
-ghost use Rattle.sieve.specs.Kinds.{Fresh, always};
+ghost use Rattle.sieve.specs.Kinds.{Fresh, Always};
 ghost use Rattle.lookahead.specs.Kinds.{gap_rules, GapJust, Real};
 ghost use Rattle.lookahead.specs.Views.{clashes_on};
 ghost use Rattle.lookahead.specs.Laws.{gap_law};
@@ -33,7 +33,7 @@ impl Sieve for Gap {
 
     ghost rules = { gap_rules };
 
-    ghost whole = { always };
+    ghost whole = { Always };
 
     ghost kept = { Real };
 

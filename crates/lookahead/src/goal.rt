@@ -1,6 +1,6 @@
 ghost use Rattle.std.specs.Prelude.{Option};
 ghost use Rattle.model.specs.Sieves.{Subject};
-ghost use Rattle.sieve.specs.Kinds.{Fresh, always};
+ghost use Rattle.sieve.specs.Kinds.{Fresh, Always};
 ghost use Rattle.lookahead.specs.Kinds.{goal_rules, GoalJust, Real};
 ghost use Rattle.lookahead.specs.Views.{deadlines_on};
 ghost use Rattle.lookahead.specs.Laws.{goal_law};
@@ -33,7 +33,7 @@ impl Sieve for Goal {
 
     ghost rules = { goal_rules };
 
-    ghost whole = { always };
+    ghost whole = { Always };
 
     ghost kept = { Real };
 

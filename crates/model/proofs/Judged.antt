@@ -45,7 +45,7 @@ hopeless_by_starts x state t lt all [] e w = omega arith
 hopeless_by_starts x state t lt all (r ∷ rs) e w = all r rs e w
 
 not_open : (x : Subject) (state t r : ℕ) → (OpenRound x state t r → ⊥) → HopelessStart x state t r
-not_open x state t r no-round rest e w = no-round w.0
+not_open x state t r no_round rest e w = no_round w.0
 
 by_next : (x : Subject) (state t r : ℕ) → Hopeless x (next x.task state r) (suc t) → HopelessStart x state t r
 by_next x state t r no_way rest e w = no_way rest (omega arith) w.1
@@ -77,7 +77,7 @@ lead x state t from round rest lt first below (e, w, before) = (omega arith, (fi
 
 -- an open round leads from a standing to a standing
 pub moves : (x : Subject) → Genuine x → (state t round : ℕ) → Standing x state t → t < x.card.rounds → OpenRound x state t round → Standing x (next x.task state round) (suc t)
-moves x ok state t round st lt open-here = (grouped_next x.task ok.lawful state round st.0 open-here.0, omega arith)
+moves x ok state t round st lt open_here = (grouped_next x.task ok.lawful state round st.0 open_here.0, omega arith)
 
 -- where Good holds of what a sieve means, all that it drops is hopeless, and Good stays when it is told of a hopeless standing
 pub record Sound {M : Type 0} (rules : Rules M) (x : Subject) (Good : M → Type 0) : Type 0 where

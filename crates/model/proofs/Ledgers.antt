@@ -53,7 +53,7 @@ no_from : {P : Type 0} (r : Bool) → (P → r ≡ true) → r ≡ false → P �
 no_from r to e p = both_ways r e (to p)
 
 pub no_to : {P : Type 0} (r : Bool) → (r ≡ true → P) → (P → ⊥) → r ≡ false
-no_to r from no-p = ⊎_elim (λ e. absurd (no-p (from e))) (λ e. e) (cases_Bool r)
+no_to r from no_p = ⊎_elim (λ e. absurd (no_p (from e))) (λ e. e) (cases_Bool r)
 
 -- what comes before and after the first x stays
 taken_out_split : (x : Booking) (before behind : List Booking) → (Among x before → ⊥) → taken_out x (before ++ (x ∷ behind)) ≡ before ++ behind
@@ -105,10 +105,10 @@ Says xs done = (m : ℕ) → Told m xs → ⊥
 Says xs (refused n) = Told n xs × ((m : ℕ) → m < n → Told m xs → ⊥)
 
 past : (x : Ground) (xs : List Ground) (v : Verdict) → x.applies ≡ false → Says xs v → Says (x ∷ xs) v
-past x xs v no-x says = by v says
+past x xs v no_x says = by v says
   where
     behind : (m : ℕ) → Told m (x ∷ xs) → Told m xs
-    behind m (inl h) = absurd (both_ways _ no-x h.1)
+    behind m (inl h) = absurd (both_ways _ no_x h.1)
     behind m (inr h) = h
 
     by : (w : Verdict) → Says xs w → Says (x ∷ xs) w

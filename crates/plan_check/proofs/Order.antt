@@ -87,33 +87,33 @@ module _ (b : Task) (bookings : List Booking) (t state round : ℕ) where
   pub first_24 : (a : ℕ) → Lowest (Some a) Unknown → First (UnknownAction t a)
   first_24 a found = first_one (UnknownAction t a) refl clear_start (refl, found.0) (λ i j. found.1 i)
 
-  module _ (no-unknown : Lowest None Unknown) (booked : ℕ) (for-t : BookedFor bookings t booked) where
+  module _ (no_unknown : Lowest None Unknown) (booked : ℕ) (for_t : BookedFor bookings t booked) where
     clear_25 : Clear 25
-    clear_25 = clear_more 24 clear_start (λ i j. no-unknown i)
+    clear_25 = clear_more 24 clear_start (λ i j. no_unknown i)
 
     pub first_25 : (a : ℕ) → Lowest (Some a) (λ a. In a booked × (In a round → ⊥)) → First (MissingBooking t a)
     first_25 a found =
-        first_one (MissingBooking t a) refl clear_25 (refl, ((for-t a).0 found.0.0, found.0.1)) (λ i j l h. found.1 i l ((for-t i).1 h.0, h.1))
+        first_one (MissingBooking t a) refl clear_25 (refl, ((for_t a).0 found.0.0, found.0.1)) (λ i j l h. found.1 i l ((for_t i).1 h.0, h.1))
 
-    module _ (no-missing : Lowest None (λ a. In a booked × (In a round → ⊥))) where
+    module _ (no_missing : Lowest None (λ a. In a booked × (In a round → ⊥))) where
       clear_26 : Clear 26
-      clear_26 = clear_more 25 clear_25 (λ i j h. no-missing i ((for-t i).1 h.0, h.1))
+      clear_26 = clear_more 25 clear_25 (λ i j h. no_missing i ((for_t i).1 h.0, h.1))
 
       pub first_26 : (a : ℕ) → Lowest (Some a) Unmet → First (UnmetNeed t a)
       first_26 a found = first_one (UnmetNeed t a) refl clear_26 (refl, found.0) (λ i j. found.1 i)
 
-      module _ (no-unmet : Lowest None Unmet) where
+      module _ (no_unmet : Lowest None Unmet) where
         clear_27 : Clear 27
-        clear_27 = clear_more 26 clear_26 (λ i j. no-unmet i)
+        clear_27 = clear_more 26 clear_26 (λ i j. no_unmet i)
 
         pub first_27 : (a c : ℕ) → LowestPair (Some (a, c)) Clash → First (Disturbance t a c)
         first_27 a c found =
             first_from (Disturbance t a c) clear_27 (refl, found.0)
             (λ i j l h. ⊎_elim (λ less. found.1 i j less h) (λ s. found.2 j s.1 (subst (λ (k : ℕ). Clash k j) s.0 h)) l)
 
-        module _ (no-clash : LowestPair None Clash) (after : ℕ) (is : after ≡ next b state round) where
+        module _ (no_clash : LowestPair None Clash) (after : ℕ) (is : after ≡ next b state round) where
           clear_28 : Clear 28
-          clear_28 = clear_more 27 clear_27 no-clash
+          clear_28 = clear_more 27 clear_27 no_clash
 
           pub first_28 : (i : ℕ) → Lowest (Some i) (BarIn after) → First (BarAfter t i)
           first_28 i found =

@@ -52,20 +52,20 @@ end_stops bs p q u e =
 outline_spans : (bs : List ℕ) → ((i : ℕ) → get_or bs i 0 < 256) → (p q : ℕ) (o : Outline) → read_outline bs p ≡ Ok (o, q) → Spans bs p (written o) q × (length bs ≤ q)
 unfolding written
 outline_spans bs low p q o e =
-    follow_by (Field Head) (read_counts bs p) _ (o, q) e λ n p₁ n-read then-x.
-    follow_by (Field Head) (read_ends n.facts bs p₁) _ (o, q) then-x λ x p₂ x-read then-a.
-    follow_by (λ e. e) (read_table 64 idle (read_action n.facts) InAction n.actions bs p₂) _ (o, q) then-a λ a p₃ a_read then-g.
-    follow_by (λ e. e) (read_table 16 0 (read_set n.facts) (part_record Groups) n.groups bs p₃) _ (o, q) then-g λ g p₄ g-read then-h.
-    follow_by (λ e. e) (read_table 8 0 (read_set n.facts) (part_record Bars) n.bars bs p₄) _ (o, q) then-h λ h p₅ h-read then-z.
-    follow_by (λ e. e) (read_end bs p₅) _ (o, q) then-z λ z p₆ z-read done.
-    let stop = end_stops bs p₅ p₆ z z-read in
+    follow_by (Field Head) (read_counts bs p) _ (o, q) e λ n p₁ n_read then_x.
+    follow_by (Field Head) (read_ends n.facts bs p₁) _ (o, q) then_x λ x p₂ x_read then_a.
+    follow_by (λ e. e) (read_table 64 idle (read_action n.facts) InAction n.actions bs p₂) _ (o, q) then_a λ a p₃ a_read then_g.
+    follow_by (λ e. e) (read_table 16 0 (read_set n.facts) (part_record Groups) n.groups bs p₃) _ (o, q) then_g λ g p₄ g_read then_h.
+    follow_by (λ e. e) (read_table 8 0 (read_set n.facts) (part_record Bars) n.bars bs p₄) _ (o, q) then_h λ h p₅ h_read then_z.
+    follow_by (λ e. e) (read_end bs p₅) _ (o, q) then_z λ z p₆ z_read done.
+    let stop = end_stops bs p₅ p₆ z z_read in
     let actions = table_spans (read_action n.facts) InAction action_bytes bs (action_spans bs low n.facts) 64 idle n.actions p₂ p₃ a a_read in
-    let groups = table_spans (read_set n.facts) (part_record Groups) set_bytes bs (set_spans bs low n.facts) 16 0 n.groups p₃ p₄ g g-read in
-    let bars = table_spans (read_set n.facts) (part_record Bars) set_bytes bs (set_spans bs low n.facts) 8 0 n.bars p₄ p₅ h h-read in
+    let groups = table_spans (read_set n.facts) (part_record Groups) set_bytes bs (set_spans bs low n.facts) 16 0 n.groups p₃ p₄ g g_read in
+    let bars = table_spans (read_set n.facts) (part_record Bars) set_bytes bs (set_spans bs low n.facts) 8 0 n.bars p₄ p₅ h h_read in
     let Taken : Outline × ℕ → Type 0 = λ y. Spans bs p (written y.0) y.1 × (length bs ≤ y.1) in
     subst Taken (same_ok _ (o, q) done) (
-      spans_append bs p p₁ p₆ (n.facts ∷ n.actions ∷ n.groups ∷ n.bars ∷ []) _ (counts_spans bs p p₁ n n-read)
-          (spans_append bs p₁ p₂ p₆ (ends_bytes x.initial x.goal) _ (ends_spans bs low n.facts p₁ p₂ x x-read)
+      spans_append bs p p₁ p₆ (n.facts ∷ n.actions ∷ n.groups ∷ n.bars ∷ []) _ (counts_spans bs p p₁ n n_read)
+          (spans_append bs p₁ p₂ p₆ (ends_bytes x.initial x.goal) _ (ends_spans bs low n.facts p₁ p₂ x x_read)
           (spans_append bs p₂ p₃ p₆ _ _ actions (spans_append bs p₃ p₄ p₆ _ _ groups (rw stop.0 at bars)))),
       stop.1,
     )

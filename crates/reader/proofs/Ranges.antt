@@ -135,7 +135,7 @@ module _ {A : Type 0} (one : List ℕ → ℕ → Read A FieldFault) (record_of 
   tabled : (size : ℕ) (empty : A) (n : ℕ) (xs : List A) → n ≤ size → length xs ≡ n → ((k : ℕ) (d : A) → k < length xs → P (get_or xs k d)) → Tabled P size empty n (filled_up size empty xs)
   tabled size empty n xs h long all = record {
     long = length-append xs (replicate (size - length xs) empty) ∙ ap (λ (m : ℕ). length xs + m) (length-replicate (size - length xs) empty) ∙ omega arith;
-    front = λ k l. let in-front : k < length xs = omega arith in subst P (sym (get_or_append_left xs (replicate (size - length xs) empty) empty k in-front)) (all k empty in-front);
+    front = λ k l. let in_front : k < length xs = omega arith in subst P (sym (get_or_append_left xs (replicate (size - length xs) empty) empty k in_front)) (all k empty in_front);
     back = λ k l m. get_or-append_right xs (replicate (size - length xs) empty) n k empty long l ∙ get_or-replicate (size - length xs) (k - n) empty empty (omega arith);
   }
 

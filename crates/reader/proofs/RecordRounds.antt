@@ -55,15 +55,15 @@ module _ (bs : List ℕ) where
 
   pub counts_spans : (p q : ℕ) (n : Counts) → read_counts bs p ≡ Ok (n, q) → Spans bs p (n.facts ∷ n.actions ∷ n.groups ∷ n.bars ∷ []) q
   counts_spans p q n e =
-      follow_by (λ e. e) (read_count 1 64 bs p) _ (n, q) e λ f p₁ f-read then-a.
-      follow_by (λ e. e) (read_count 0 64 bs p₁) _ (n, q) then-a λ a p₂ a_read then-g.
-      follow_by (λ e. e) (read_count 0 16 bs p₂) _ (n, q) then-g λ g p₃ g-read then-h.
-      follow_by (λ e. e) (read_count 0 8 bs p₃) _ (n, q) then-h λ h p₄ h-read done.
+      follow_by (λ e. e) (read_count 1 64 bs p) _ (n, q) e λ f p₁ f_read then_a.
+      follow_by (λ e. e) (read_count 0 64 bs p₁) _ (n, q) then_a λ a p₂ a_read then_g.
+      follow_by (λ e. e) (read_count 0 16 bs p₂) _ (n, q) then_g λ g p₃ g_read then_h.
+      follow_by (λ e. e) (read_count 0 8 bs p₃) _ (n, q) then_h λ h p₄ h_read done.
       let Taken : Counts × ℕ → Type 0 = λ x. Spans bs p (x.0.facts ∷ x.0.actions ∷ x.0.groups ∷ x.0.bars ∷ []) x.1 in
       subst Taken (same_ok (record { facts = f; actions = a; groups = g; bars = h }, p₄) (n, q) done)
-      (spans_append bs p p₁ p₄ (f ∷ []) (a ∷ g ∷ h ∷ []) (count_spans bs 1 64 p p₁ f f-read)
+      (spans_append bs p p₁ p₄ (f ∷ []) (a ∷ g ∷ h ∷ []) (count_spans bs 1 64 p p₁ f f_read)
       (spans_append bs p₁ p₂ p₄ (a ∷ []) (g ∷ h ∷ []) (count_spans bs 0 64 p₁ p₂ a a_read)
-      (spans_append bs p₂ p₃ p₄ (g ∷ []) (h ∷ []) (count_spans bs 0 16 p₂ p₃ g g-read) (count_spans bs 0 8 p₃ p₄ h h-read))))
+      (spans_append bs p₂ p₃ p₄ (g ∷ []) (h ∷ []) (count_spans bs 0 16 p₂ p₃ g g_read) (count_spans bs 0 8 p₃ p₄ h h_read))))
 
   module _ (facts : ℕ) (few : facts ≤ 64) where
     pub ends_read : (p q : ℕ) (x : Ends) → KnownEnds facts x → Spans bs p (ends_bytes x.initial x.goal) q → read_ends facts bs p ≡ Ok (x, q)
@@ -104,13 +104,13 @@ module _ (bs : List ℕ) where
     pub ends_spans : (facts p q : ℕ) (x : Ends) → read_ends facts bs p ≡ Ok (x, q) → Spans bs p (ends_bytes x.initial x.goal) q
     unfolding ends_bytes
     ends_spans facts p q x e =
-        follow_by (λ e. e) (read_map 4 bs p) _ (x, q) e λ m p₁ m-read then-i.
-        follow_by (λ e. e) (read_optional (eqb (m % 2) 1) facts bs p₁) _ (x, q) then-i λ initial p₂ i-read then-g.
-        follow_by (λ e. e) (read_optional (eqb (m / 2) 1) facts bs p₂) _ (x, q) then-g λ goal p₃ g-read done.
-        let map = map_spans bs 4 p p₁ m m-read in
+        follow_by (λ e. e) (read_map 4 bs p) _ (x, q) e λ m p₁ m_read then_i.
+        follow_by (λ e. e) (read_optional (eqb (m % 2) 1) facts bs p₁) _ (x, q) then_i λ initial p₂ i_read then_g.
+        follow_by (λ e. e) (read_optional (eqb (m / 2) 1) facts bs p₂) _ (x, q) then_g λ goal p₃ g_read done.
+        let map = map_spans bs 4 p p₁ m m_read in
         let limit = map.1 in
-        let i = optional_spans bs low (eqb (m % 2) 1) facts p₁ p₂ initial i-read in
-        let g = optional_spans bs low (eqb (m / 2) 1) facts p₂ p₃ goal g-read in
+        let i = optional_spans bs low (eqb (m % 2) 1) facts p₁ p₂ initial i_read in
+        let g = optional_spans bs low (eqb (m / 2) 1) facts p₂ p₃ goal g_read in
         let is : m ≡ bit 1 initial + bit 2 goal =
         omega (arith, bit_is 1 initial (m % 2) (omega arith) i.1, bit_is 2 goal (m / 2) (omega arith) g.1) in
         let Taken : Ends × ℕ → Type 0 = λ y. Spans bs p (ends_bytes y.0.initial y.0.goal) y.1 in
@@ -121,15 +121,15 @@ module _ (bs : List ℕ) where
     pub action_spans : (facts p q : ℕ) (a : Action) → read_action facts bs p ≡ Ok (a, q) → Spans bs p (action_bytes a) q
     unfolding action_bytes
     action_spans facts p q a e =
-        follow_by (λ e. e) (read_map 8 bs p) _ (a, q) e λ m p₁ m-read then-n.
-        follow_by (λ e. e) (read_optional (eqb (m % 2) 1) facts bs p₁) _ (a, q) then-n λ needs p₂ n-read then-d.
-        follow_by (λ e. e) (read_optional (eqb (m / 2 % 2) 1) facts bs p₂) _ (a, q) then-d λ adds p₃ d-read then-x.
-        follow_by (λ e. e) (read_optional (eqb (m / 4) 1) facts bs p₃) _ (a, q) then-x λ deletes p₄ x-read done.
-        let map = map_spans bs 8 p p₁ m m-read in
+        follow_by (λ e. e) (read_map 8 bs p) _ (a, q) e λ m p₁ m_read then_n.
+        follow_by (λ e. e) (read_optional (eqb (m % 2) 1) facts bs p₁) _ (a, q) then_n λ needs p₂ n_read then_d.
+        follow_by (λ e. e) (read_optional (eqb (m / 2 % 2) 1) facts bs p₂) _ (a, q) then_d λ adds p₃ d_read then_x.
+        follow_by (λ e. e) (read_optional (eqb (m / 4) 1) facts bs p₃) _ (a, q) then_x λ deletes p₄ x_read done.
+        let map = map_spans bs 8 p p₁ m m_read in
         let limit = map.1 in
-        let n = optional_spans bs low (eqb (m % 2) 1) facts p₁ p₂ needs n-read in
-        let d = optional_spans bs low (eqb (m / 2 % 2) 1) facts p₂ p₃ adds d-read in
-        let x = optional_spans bs low (eqb (m / 4) 1) facts p₃ p₄ deletes x-read in
+        let n = optional_spans bs low (eqb (m % 2) 1) facts p₁ p₂ needs n_read in
+        let d = optional_spans bs low (eqb (m / 2 % 2) 1) facts p₂ p₃ adds d_read in
+        let x = optional_spans bs low (eqb (m / 4) 1) facts p₃ p₄ deletes x_read in
         let is : m ≡ bit 1 needs + bit 2 adds + bit 4 deletes =
         omega (arith, bit_is 1 needs (m % 2) (omega arith) n.1, bit_is 2 adds (m / 2 % 2) (omega arith) d.1, bit_is 4 deletes (m / 4) (omega arith) x.1) in
         let Taken : Action × ℕ → Type 0 = λ y. Spans bs p (action_bytes y.0) y.1 in

@@ -225,10 +225,10 @@ module _ (m : Masks) (state low : ℕ) (n : Node) (sound : Sound (task m.book.ou
       )
 
   before : (q r : ℕ) → Inside leaving q → Inside taking r → q < r
-  before q r low-in high-in =
-      let low_of = inside_leaving q low-in in
-      let high-of = inside_taking r high-in in
-      ascends i q r (λ j above h. high-of.0.0 j (taken_above j above (low_of.0.1 j h))) (λ j above h. low_of.0.0 j (taken_above j above (high-of.0.1 j h))) low_of.1 high-of.1
+  before q r low_in high_in =
+      let low_of = inside_leaving q low_in in
+      let high_of = inside_taking r high_in in
+      ascends i q r (λ j above h. high_of.0.0 j (taken_above j above (low_of.0.1 j h))) (λ j above h. low_of.0.0 j (taken_above j above (high_of.0.1 j h))) low_of.1 high_of.1
     where
       taken_above : (j : ℕ) → i < j → In j (bit_or n.taken n.free) → In j n.taken
       taken_above j above h = ⊎_elim (λ k. k) (λ k. absurd (omega (arith, top.most j k))) (in_or j n.taken n.free h)

@@ -20,6 +20,6 @@ pub next_from : (x : Subject) (state t must from : ℕ) (r : Option ℕ) → Boo
 next_from x state t must from (Some r) booked found = (
   found.least,
   (found.good.0, holds_from x.card.bookings t must r booked found.good.1),
-  λ q le lt open-round. found.first q le lt (open-round.0, holds_to x.card.bookings t must q booked open-round.1),
+  λ q le lt open_round. found.first q le lt (open_round.0, holds_to x.card.bookings t must q booked open_round.1),
 )
-next_from x state t must from None booked none = λ q le open-round. none q le (open-round.0, holds_to x.card.bookings t must q booked open-round.1)
+next_from x state t must from None booked none = λ q le open_round. none q le (open_round.0, holds_to x.card.bookings t must q booked open_round.1)

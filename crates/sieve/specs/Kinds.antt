@@ -19,8 +19,8 @@ open_rules = record {
 }
 
 -- nothing is asked
-abbrev pub always : {M : Type 0} → M → Type 0
-always m = Unit {0}
+abbrev pub Always : {M : Type 0} → M → Type 0
+Always m = Unit {0}
 
 -- a pair means its two sieves, and whether they were begun together
 pub record Both (M N : Type 0) : Type 0 where

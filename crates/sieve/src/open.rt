@@ -1,7 +1,7 @@
 ghost use Rattle.std.specs.Prelude.{Option};
 ghost use Rattle.model.specs.Sieves.{Subject};
 ghost use Rattle.sieve.specs.Subjects.{seen_on};
-ghost use Rattle.sieve.specs.Kinds.{open_rules, Fresh, always};
+ghost use Rattle.sieve.specs.Kinds.{open_rules, Fresh, Always};
 ghost use Rattle.std.proofs.Common.{rules};
 
 use crate::seen::Seen;
@@ -30,9 +30,9 @@ impl Sieve for Open {
 
     ghost rules = { open_rules };
 
-    ghost whole = { always };
+    ghost whole = { Always };
 
-    ghost kept = { always };
+    ghost kept = { Always };
 
     ghost stands = { Prim.search rules };
 

@@ -119,7 +119,7 @@ none_sooner e (wrong_length n) s = n refl
 none_sooner e (misses is n) s = ⊎_elim (λ l. omega arith) (λ same. omega (arith, same.0)) s
 none_sooner e (in_round l h) s =
     ⊎_elim
-    (λ early. let zero-th : flaw_round e ≡ 0 = omega arith in lawful_clean sample 37 1 (lawful 37 1 (lit< tt) refl refl) e (subst (λ (t : ℕ). FlawAt t e) zero-th h))
+    (λ early. let zero_th : flaw_round e ≡ 0 = omega arith in lawful_clean sample 37 1 (lawful 37 1 (lit< tt) refl refl) e (subst (λ (t : ℕ). FlawAt t e) zero_th h))
     (λ same. ⊎_elim (λ number. loose_clean sample 38 20 (loose sample 38 20 (lit< tt) refl) e (subst (λ (t : ℕ). FlawAt t e) same.0 h) number)
     (λ last. ⊎_elim (λ first. omega arith) (λ second. omega (arith, second.1)) last.1) same.1) s
 

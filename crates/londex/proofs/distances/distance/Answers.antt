@@ -9,4 +9,4 @@ returns c =
     let known = c.in_ok-check_facts.ensures in
     let arcs = graph c.arc_table-arcs.result in
     let far : c.args.w < 64 → Least arcs c.args.v c.args.w (entry c.distances_from.result c.args.w) = search rules in
-    (known.0, facts_are (task c.args.book.now.outline) c.law.ensures.lawful arcs c.arc_table-arcs.ensures c.args.v c.args.w _ known.1 (λ v-small w-small. far w-small))
+    (known.0, facts_are (task c.args.book.now.outline) c.law.ensures.lawful arcs c.arc_table-arcs.ensures c.args.v c.args.w _ known.1 (λ v-small w_small. far w_small))

@@ -14,4 +14,4 @@ pub returns : goal.returns
 returns c v w both =
     let end : c.loop-v.v ≡ 64 = omega arith in
     facts_are (task c.args.book.now.outline) c.law.ensures.lawful (graph c.arc_table-arcs.result) c.arc_table-arcs.ensures v w (at c.loop-v.table v w) both
-    (λ v-small w-small. c.loop-v.invariant.1 v (omega arith) w w-small)
+    (λ v-small w_small. c.loop-v.invariant.1 v (omega arith) w w_small)

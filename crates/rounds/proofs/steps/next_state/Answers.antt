@@ -21,9 +21,9 @@ loop-i-preserved c =
     let is = action_is o i c.loop-i-test.true in
     elim c.if-contains.branch [
       | then-contains w ↦
-          let yes-in = sym c.contains.ensures ∙ w.if-contains.true in (
-            ap (λ (n : ℕ). bit_or n (rest (λ a. a.adds) acts round (i + 1))) (w.adds-is ∙ ap (λ (a : Action). bit_or c.loop-i.adds a.adds) (sym is)) ∙ gather_in (λ a. a.adds) acts round c.loop-i.adds i within yes-in ∙ c.loop-i.invariant.0,
-            ap (λ (n : ℕ). bit_or n (rest (λ a. a.deletes) acts round (i + 1))) (w.deletes-is ∙ ap (λ (a : Action). bit_or c.loop-i.deletes a.deletes) (sym is)) ∙ gather_in (λ a. a.deletes) acts round c.loop-i.deletes i within yes-in ∙ c.loop-i.invariant.1,
+          let yes_in = sym c.contains.ensures ∙ w.if-contains.true in (
+            ap (λ (n : ℕ). bit_or n (rest (λ a. a.adds) acts round (i + 1))) (w.adds-is ∙ ap (λ (a : Action). bit_or c.loop-i.adds a.adds) (sym is)) ∙ gather_in (λ a. a.adds) acts round c.loop-i.adds i within yes_in ∙ c.loop-i.invariant.0,
+            ap (λ (n : ℕ). bit_or n (rest (λ a. a.deletes) acts round (i + 1))) (w.deletes-is ∙ ap (λ (a : Action). bit_or c.loop-i.deletes a.deletes) (sym is)) ∙ gather_in (λ a. a.deletes) acts round c.loop-i.deletes i within yes_in ∙ c.loop-i.invariant.1,
           )
       | else-contains w ↦
           let not_in = sym c.contains.ensures ∙ w.if-contains.false in (
