@@ -4,7 +4,7 @@ use Rattle.std.proofs.Common.{sym, ap, ◌∙◌, ⊎_elim, arith, take-append-d
 use Rattle.std.proofs.lemmas.Bool.{eq-eqb, eqb-true, and_parts, and_from, or_cases, or_left, or_right, false≢true}
 use Rattle.std.specs.List.{ContainsAt}
 use Rattle.model.specs.declared.Booking.{Booking}
-use Rattle.model.proofs.Same.{Test, task_test}
+use Rattle.model.proofs.Same.{Test, booking_test, task_test}
 use Rattle.model.specs.Ledgers.{same, slot, Among}
 use Rattle.model.specs.Bookings.{AllOf}
 use Rattle.memory.specs.declared.told.Told.{Told}
@@ -17,16 +17,6 @@ pub agree : (r b : Bool) {P : Type 0} → Decides r P → Decides b P → r ≡ 
 agree true b f g = sym (g.1 (f.0 refl))
 agree false true f g = f.1 (g.0 refl)
 agree false false f g = refl
-
-pub booking_test : Test same
-booking_test x y = (
-  λ e.
-      let a = and_parts _ _ e in
-      let p = eqb-true _ _ a.0 in
-      let q = eqb-true _ _ a.1 in
-      λ i. record { action = p i; round = q i },
-  λ e. and_from _ _ (eq-eqb _ _ (ap (λ (a : Booking). a.action) e)) (eq-eqb _ _ (ap (λ (a : Booking). a.round) e)),
-)
 
 pub told_test : Test same_told
 told_test x y = (

@@ -1,5 +1,4 @@
-ghost use Rattle.std.specs.Prelude.{◌≡◌, Decides, nat_eq};
-ghost use Rattle.std.specs.Ordering.{on, eq_of_both};
+ghost use Rattle.memory.specs.Memories.{same_told};
 ghost use Rattle.std.specs.Cmp.Rules.{comparing};
 ghost use Rattle.std.proofs.Common.{rules};
 ghost use Rattle.std.specs.Cmp as Keys;
@@ -12,7 +11,7 @@ pub struct Told {
 }
 
 impl PartialEq for Told {
-    ghost eq = { eq_of_both (on (λ v. v.state) nat_eq) (on (λ v. v.t) nat_eq) };
+    ghost eq = { same_told };
 
     ghost laws = { Keys.partial_equiv_from_equiv (Prim.search (comparing, rules)) };
 

@@ -5,7 +5,9 @@ use Rattle.std.specs.Cmp.{IsPartialEquivalence, both_ways}
 use Rattle.std.specs.Cmp.Lexicographic.{pointwise_decides}
 use Rattle.std.proofs.lemmas.Bool.{eq-eqb, eqb-true, and_parts, and_from}
 use Rattle.model.specs.declared.Action.{Action}
+use Rattle.model.specs.declared.Booking.{Booking}
 use Rattle.model.specs.Tasks.{Task}
+use Rattle.model.specs.Ledgers.{same}
 use Rattle.model.specs.Same.{same_action, same_task}
 
 -- f answers whether two values are the same
@@ -27,6 +29,16 @@ action_test x y = (
   λ e.
       and_from _ _ (eq-eqb _ _ (ap (λ (a : Action). a.needs) e))
       (and_from _ _ (eq-eqb _ _ (ap (λ (a : Action). a.adds) e)) (eq-eqb _ _ (ap (λ (a : Action). a.deletes) e))),
+)
+
+pub booking_test : Test same
+booking_test x y = (
+  λ e.
+      let a = and_parts _ _ e in
+      let p = eqb-true _ _ a.0 in
+      let q = eqb-true _ _ a.1 in
+      λ i. record { action = p i; round = q i },
+  λ e. and_from _ _ (eq-eqb _ _ (ap (λ (a : Booking). a.action) e)) (eq-eqb _ _ (ap (λ (a : Booking). a.round) e)),
 )
 
 pub task_test : Test same_task

@@ -1,8 +1,9 @@
 // The plain types that the definitions in specs/ speak of.
 #![tactic(auto)]
 
-ghost use Rattle.std.specs.Prelude.{◌≡◌, Decides, nat_eq};
-ghost use Rattle.std.specs.Ordering.{on, eq_of_both};
+ghost use Rattle.std.specs.Prelude.{◌≡◌, Decides};
+ghost use Rattle.model.specs.Same.{same_action};
+ghost use Rattle.model.specs.Ledgers.{same};
 ghost use Rattle.std.specs.Cmp.Rules.{comparing};
 ghost use Rattle.std.proofs.Common.{rules};
 ghost use Rattle.std.specs.Cmp as Keys;
@@ -16,12 +17,12 @@ pub struct Action {
 }
 
 impl PartialEq for Action {
-    ghost eq = { eq_of_both (on (λ v. v.needs) nat_eq) (eq_of_both (on (λ v. v.adds) nat_eq) (on (λ v. v.deletes) nat_eq)) };
+    ghost eq = { same_action };
 
     ghost laws = { Keys.partial_equiv_from_equiv (Prim.search (comparing, rules)) };
 
     fn eq(&self, other: &Action) -> bool
-        ensures value { result ≡ eq_of_both (on (λ v. v.needs) nat_eq) (eq_of_both (on (λ v. v.adds) nat_eq) (on (λ v. v.deletes) nat_eq)) self.now other.now }
+        ensures value { result ≡ same_action self.now other.now }
         ensures decides { Decides result (self.now ≡ other.now) }
     {
         self.needs == other.needs && self.adds == other.adds && self.deletes == other.deletes
@@ -40,12 +41,12 @@ pub struct Booking {
 }
 
 impl PartialEq for Booking {
-    ghost eq = { eq_of_both (on (λ v. v.action) nat_eq) (on (λ v. v.round) nat_eq) };
+    ghost eq = { same };
 
     ghost laws = { Keys.partial_equiv_from_equiv (Prim.search (comparing, rules)) };
 
     fn eq(&self, other: &Booking) -> bool
-        ensures value { result ≡ eq_of_both (on (λ v. v.action) nat_eq) (on (λ v. v.round) nat_eq) self.now other.now }
+        ensures value { result ≡ same self.now other.now }
         ensures decides { Decides result (self.now ≡ other.now) }
     {
         self.action == other.action && self.round == other.round
