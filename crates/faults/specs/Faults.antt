@@ -1,5 +1,5 @@
 -- The number of each fault of a file, its record and its place; and which fault of a whole book comes first.
-use Rattle.std.specs.Prelude.{◌≡◌, ℕ, ◌<◌, ◌⊎◌, length, Some, None, Option}
+use Rattle.std.specs.Prelude.{◌≡◌, ℕ, ◌<◌, ◌⊎◌, List, length, ◌++◌, Some, None, Option, codes, decimal}
 use Rattle.sets.specs.Sets.{Part, Meet, One}
 use Rattle.model.specs.Tasks.{Task, Has, Fits, action, group, bar}
 use Rattle.faults.specs.declared.Record.{Record}
@@ -44,6 +44,13 @@ fault_record (SharedGroup g) = Group g
 fault_record (NotOneAtStart g) = Group g
 fault_record (BrokenGroup a) = Action a
 fault_record (BarAtStart i) = Bar i
+
+-- how a record is printed
+abbrev pub record_text : Record → List ℕ
+record_text Head = codes "head"
+record_text (Action i) = codes "action " ++ decimal i
+record_text (Group i) = codes "group " ++ decimal i
+record_text (Bar i) = codes "bar " ++ decimal i
 
 -- the first byte of the field at fault, for the numbers 1 to 6
 abbrev pub fault_byte : Fault → Option ℕ

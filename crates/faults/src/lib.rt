@@ -1,10 +1,12 @@
 // Why a file is no book.
 #![tactic(auto)]
 
-ghost use Rattle.std.specs.Prelude.{◌≡◌};
+ghost use Rattle.std.specs.Prelude.{◌≡◌, Some};
 ghost use Rattle.faults.specs.declared.Record.TheVariants.{Head as HEAD};
 ghost use Rattle.faults.specs.declared.Fault.TheVariants.{Field as FIELD};
-ghost use Rattle.faults.specs.Faults.{field_number, field_byte, fault_number, fault_record, fault_byte};
+ghost use Rattle.faults.specs.Faults.{field_number, field_byte, fault_number, fault_record, fault_byte, record_text};
+
+use std::fmt;
 
 // A part of the file. The four counts belong to the head, and so do bytes after the end.
 #[derive(Clone, Copy, PartialEq, Eq, Debug)]
@@ -13,6 +15,19 @@ pub enum Record {
     Action(u8),
     Group(u8),
     Bar(u8),
+}
+
+impl fmt::Display for Record {
+    ghost output = { λ r. Some (record_text r) };
+
+    fn fmt<W: fmt::Write>(&self, f: &mut fmt::Formatter<W>) -> fmt::Result {
+        match *self {
+            Record::Head => write!(f, "head"),
+            Record::Action(i) => write!(f, "action {i}"),
+            Record::Group(i) => write!(f, "group {i}"),
+            Record::Bar(i) => write!(f, "bar {i}"),
+        }
+    }
 }
 
 // A field that cannot be taken, with its first byte.

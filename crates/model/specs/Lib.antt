@@ -10,3 +10,4 @@ pub mod Sieves
 pub mod Walks
 pub mod Behaviours
 pub mod Claims
+pub mod Counting

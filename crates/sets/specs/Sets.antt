@@ -1,5 +1,5 @@
 -- Sets of numbers, each held in one number: the bit of value 2 ^ i stands for the member i.
-use Rattle.std.specs.Prelude.{◌≡◌, ℕ, ◌/◌, ◌%◌, ◌^◌, ◌<◌, Bool, Some, None, Option, ◌==◌, bit_and, bit_xor}
+use Rattle.std.specs.Prelude.{◌≡◌, ◌≢◌, ℕ, ◌/◌, ◌%◌, ◌^◌, ◌<◌, Bool, true, false, Some, None, Option, ◌==◌, bit_and, bit_xor}
 
 -- i is a member of s
 abbrev pub In : ℕ → ℕ → Type 0
@@ -42,3 +42,20 @@ pub record Marks (P : ℕ → Type 0) (s : ℕ) : Type 0 where
 abbrev pub Lowest : Option ℕ → (ℕ → Type 0) → Type 0
 Lowest None P = (k : ℕ) → P k → ⊥
 Lowest (Some i) P = P i × ((k : ℕ) → k < i → P k → ⊥)
+
+-- i is a member of s, and rest has the others
+pub record Splits (s i rest : ℕ) : Type 0 where
+  pub below : i < 64
+  pub member : In i s
+  pub others : Marks (λ j. In j s × (j ≢ i)) rest
+  pub less : rest < s
+
+-- a member is taken out of a set, or there is none to take
+abbrev pub Split : ℕ → Option ℕ → ℕ → Type 0
+Split s None rest = s ≡ 0
+Split s (Some i) rest = Splits s i rest
+
+-- s has numbers below n for which the test answers true, and of the others below n it answers false
+pub record Gathered (Tests : ℕ → Bool → Type 0) (n s : ℕ) : Type 0 where
+  pub member : (i : ℕ) → In i s → (i < n) × Tests i true
+  pub other : (i : ℕ) → i < n → (In i s → ⊥) → Tests i false

@@ -1,6 +1,9 @@
 // Sets of numbers below 64, each a u64: the bit of value 2^i stands for the member i.
 #![tactic(auto)]
 
+pub mod gather;
+pub mod iter;
+
 ghost use Rattle.std.specs.Prelude.{◌≡◌, Decides};
 ghost use Rattle.sets.specs.Sets.{has, Part, Meet, One, AtMostOne};
 
