@@ -1,2 +1,0 @@
-pub mod Paddings
-pub mod Fronts

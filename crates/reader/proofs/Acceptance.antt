@@ -1,6 +1,6 @@
 -- A lawful book is read back from the bytes that write it, so a file is accepted exactly where some book is written as it.
 use Rattle.std.proofs.Common.{◌≡◌, ℕ, ◌<◌, List, get_or, Ok, Err, Result, sym, ◌∙◌, subst, ⊎_elim, arith}
-use Rattle.model.specs.declared.Action.{Action}
+use Rattle.std.proofs.lemmas.List.{get_or_default}
 use Rattle.model.specs.Tasks.{Task, Lawful, idle}
 use Rattle.model.proofs.Laws.{lawful_from}
 use Rattle.faults.specs.declared.Fault.{Fault}
@@ -8,44 +8,27 @@ use Rattle.faults.specs.declared.Fault.TheVariants.{Field, BytesLeft, AddsAndDel
 use Rattle.faults.specs.Faults.{Breaks}
 use Rattle.book.specs.declared.book.Book.{Book}
 use Rattle.book.specs.declared.outline.Outline.{Outline}
-use Rattle.book.specs.Views.{task, Counted, Wide, Padded}
-use Rattle.book.proofs.Paddings.{padded_from}
-use Rattle.book.proofs.Fronts.{action_is, group_is, bar_is, actions_are, groups_are, bars_are}
+use Rattle.book.specs.Views.{task}
 use Rattle.reader.specs.Formats.{outline_of}
 use Rattle.reader.specs.Written.{written}
 use Rattle.reader.specs.Reads.{Reads, Accepts, Gives}
-use Rattle.reader.proofs.Ranges.{same_ok, Known, KnownAction}
+use Rattle.reader.proofs.Ranges.{same_ok}
 use Rattle.reader.proofs.Outlines.{Tidy}
 use Rattle.reader.proofs.FileRounds.{written_read, read_written}
 
-idle_from : (a : Action) → (a.needs ≡ 0) × (a.adds ≡ 0) × (a.deletes ≡ 0) → a ≡ idle
-idle_from a e = λ i. record { needs = e.0 i; adds = e.1 i; deletes = e.2 i }
-
-lawful_tidy : (o : Outline) → Lawful (task o) → Counted o → Wide o → Padded o → Tidy o
-lawful_tidy o l counted wide padded = record {
+lawful_tidy : (o : Outline) → Lawful (task o) → Tidy o
+lawful_tidy o l = record {
   facts = l.few_facts;
-  counted = counted;
+  few = (l.few_actions, l.few_groups, l.few_bars);
   ends = (l.initial_known, l.goal_known);
-  actions = record {
-    long = wide.0;
-    front = λ a h. subst (KnownAction o.facts) (action_is o a h) (l.actions_known a (omega (arith, actions_are o wide counted)));
-    back = λ a h m. idle_from (get_or o.actions a idle) (padded.actions a h m);
-  };
-  groups = record {
-    long = wide.1;
-    front = λ g h. subst (Known o.facts) (group_is o g h) (l.groups_known g (omega (arith, groups_are o wide counted)));
-    back = padded.groups;
-  };
-  bars = record {
-    long = wide.2;
-    front = λ i h. subst (Known o.facts) (bar_is o i h) (l.bars_known i (omega (arith, bars_are o wide counted)));
-    back = padded.bars;
-  };
+  actions = λ a d h. rw (get_or_default o.actions a d idle h) (l.actions_known a h);
+  groups = λ g d h. rw (get_or_default o.groups g d 0 h) (l.groups_known g h);
+  bars = λ i d h. rw (get_or_default o.bars i d 0 h) (l.bars_known i h);
 }
 
 -- the first law: every lawful book is read back
-pub lawful_read : (o : Outline) → Lawful (task o) → Counted o → Wide o → Padded o → outline_of (written o) ≡ Ok o
-lawful_read o l counted wide padded = written_read o (lawful_tidy o l counted wide padded)
+pub lawful_read : (o : Outline) → Lawful (task o) → outline_of (written o) ≡ Ok o
+lawful_read o l = written_read o (lawful_tidy o l)
 
 lawful_unbroken : (b : Task) → Lawful b → (f : Fault) → Breaks b f → ⊥
 lawful_unbroken b l (Field r f) h = h
@@ -63,7 +46,7 @@ reads_back b r reads = go r reads
     lawful = lawful_from (task b.outline) b.lawful
 
     says : outline_of (written b.outline) ≡ Ok b.outline
-    says = lawful_read b.outline lawful b.counted b.wide (padded_from b.outline b.padded)
+    says = lawful_read b.outline lawful
 
     go : (r : Result Book Fault) → Reads (written b.outline) r → Gives b.outline r
     go (Ok a) e = same_ok a.outline b.outline (sym e ∙ says)

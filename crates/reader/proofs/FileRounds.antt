@@ -4,20 +4,18 @@ use Rattle.std.proofs.lemmas.List.{append-nil, drop_all}
 use Rattle.std.proofs.lemmas.Bool.{ltb-false, le-ltb}
 use Rattle.std.specs.List.{flat_map}
 use Rattle.std.specs.Result.{result_map_both}
-use Rattle.model.specs.Tasks.{idle}
-use Rattle.faults.specs.declared.Record.TheVariants.{Head, Action as InAction}
+use Rattle.faults.specs.declared.Record.TheVariants.{Head, Action as InAction, Group as InGroup, Bar as InBar}
 use Rattle.faults.specs.declared.Fault.{Fault}
 use Rattle.faults.specs.declared.Fault.TheVariants.{Field, BytesLeft}
 use Rattle.book.specs.declared.outline.Outline.{Outline}
 use Rattle.book.specs.Views.{task}
-use Rattle.reader.specs.declared.tables.Part.TheVariants.{Groups, Bars}
-use Rattle.reader.specs.Formats.{Read, read_counts, read_ends, read_action, read_set, read_table, part_record, read_end, read_outline, outline_of}
+use Rattle.reader.specs.Formats.{Read, read_counts, read_ends, read_action, read_set, read_many, fault_in, read_end, read_outline, outline_of}
 use Rattle.reader.specs.Written.{set_bytes, ends_bytes, action_bytes, counts_bytes, written}
-use Rattle.reader.proofs.Ranges.{follow_by, same_ok, cond_err, Known, KnownAction}
+use Rattle.reader.proofs.Ranges.{follow_by, same_ok, cond_err, set_range, action_range, many_range, Known, KnownAction}
 use Rattle.reader.proofs.Outlines.{Tidy}
 use Rattle.reader.proofs.Spans.{Spans, spans_append, spans_split, spans_all}
 use Rattle.reader.proofs.Rounds.{set_read, set_spans}
-use Rattle.reader.proofs.RecordRounds.{counts_read, counts_spans, ends_read, ends_spans, action_read, action_spans, table_read, table_spans}
+use Rattle.reader.proofs.RecordRounds.{counts_read, counts_spans, ends_read, ends_spans, action_read, action_spans, many_read, many_spans}
 
 outline_read : (bs : List ℕ) (p q : ℕ) (o : Outline) → Tidy o → Spans bs p (written o) q → length bs ≤ q → read_outline bs p ≡ Ok (o, q)
 unfolding written
@@ -34,12 +32,12 @@ outline_read bs p q o t s all =
     let g = spans_split bs p₃ q groups _ a.1 in
     let p₄ = p₃ + length groups in
     rw (
-      counts_read bs p p₁ (record { facts = o.facts; actions = o.action_count; groups = o.group_count; bars = o.bar_count })
-          (record { facts = t.facts; actions = t.counted.0; groups = t.counted.1; bars = t.counted.2 }) n.0,
+      counts_read bs p p₁ (record { facts = o.facts; actions = length o.actions; groups = length o.groups; bars = length o.bars })
+          (record { facts = t.facts; actions = t.few.0; groups = t.few.1; bars = t.few.2 }) n.0,
       ends_read bs o.facts few p₁ p₂ (record { initial = o.initial; goal = o.goal }) t.ends x.0,
-      table_read (read_action o.facts) InAction action_bytes bs (KnownAction o.facts) idle (action_read bs o.facts few) 64 o.action_count p₂ p₃ o.actions t.counted.0 t.actions a.0,
-      table_read (read_set o.facts) (part_record Groups) set_bytes bs (Known o.facts) 0 (set_read bs o.facts few) 16 o.group_count p₃ p₄ o.groups t.counted.1 t.groups g.0,
-      table_read (read_set o.facts) (part_record Bars) set_bytes bs (Known o.facts) 0 (set_read bs o.facts few) 8 o.bar_count p₄ q o.bars t.counted.2 t.bars g.1,
+      many_read (read_action o.facts) action_bytes bs (KnownAction o.facts) (action_read bs o.facts few) o.actions 0 p₂ p₃ t.actions a.0,
+      many_read (read_set o.facts) set_bytes bs (Known o.facts) (set_read bs o.facts few) o.groups 0 p₃ p₄ t.groups g.0,
+      many_read (read_set o.facts) set_bytes bs (Known o.facts) (set_read bs o.facts few) o.bars 0 p₄ q t.bars g.1,
       le-ltb q (length bs) all,
     )
 
@@ -54,17 +52,21 @@ unfolding written
 outline_spans bs low p q o e =
     follow_by (Field Head) (read_counts bs p) _ (o, q) e λ n p₁ n_read then_x.
     follow_by (Field Head) (read_ends n.facts bs p₁) _ (o, q) then_x λ x p₂ x_read then_a.
-    follow_by (λ e. e) (read_table 64 idle (read_action n.facts) InAction n.actions bs p₂) _ (o, q) then_a λ a p₃ a_read then_g.
-    follow_by (λ e. e) (read_table 16 0 (read_set n.facts) (part_record Groups) n.groups bs p₃) _ (o, q) then_g λ g p₄ g_read then_h.
-    follow_by (λ e. e) (read_table 8 0 (read_set n.facts) (part_record Bars) n.bars bs p₄) _ (o, q) then_h λ h p₅ h_read then_z.
+    follow_by (fault_in InAction) (read_many (read_action n.facts) n.actions 0 bs p₂) _ (o, q) then_a λ a p₃ a_read then_g.
+    follow_by (fault_in InGroup) (read_many (read_set n.facts) n.groups 0 bs p₃) _ (o, q) then_g λ g p₄ g_read then_h.
+    follow_by (fault_in InBar) (read_many (read_set n.facts) n.bars 0 bs p₄) _ (o, q) then_h λ h p₅ h_read then_z.
     follow_by (λ e. e) (read_end bs p₅) _ (o, q) then_z λ z p₆ z_read done.
     let stop = end_stops bs p₅ p₆ z z_read in
-    let actions = table_spans (read_action n.facts) InAction action_bytes bs (action_spans bs low n.facts) 64 idle n.actions p₂ p₃ a a_read in
-    let groups = table_spans (read_set n.facts) (part_record Groups) set_bytes bs (set_spans bs low n.facts) 16 0 n.groups p₃ p₄ g g_read in
-    let bars = table_spans (read_set n.facts) (part_record Bars) set_bytes bs (set_spans bs low n.facts) 8 0 n.bars p₄ p₅ h h_read in
+    let actions = many_spans (read_action n.facts) action_bytes bs (action_spans bs low n.facts) n.actions 0 p₂ p₃ a a_read in
+    let groups = many_spans (read_set n.facts) set_bytes bs (set_spans bs low n.facts) n.groups 0 p₃ p₄ g g_read in
+    let bars = many_spans (read_set n.facts) set_bytes bs (set_spans bs low n.facts) n.bars 0 p₄ p₅ h h_read in
+    let as_many_a : n.actions ≡ length a = sym (many_range (read_action n.facts) (KnownAction n.facts) (action_range n.facts) n.actions 0 bs p₂ a p₃ a_read).0 in
+    let as_many_g : n.groups ≡ length g = sym (many_range (read_set n.facts) (Known n.facts) (set_range n.facts) n.groups 0 bs p₃ g p₄ g_read).0 in
+    let as_many_h : n.bars ≡ length h = sym (many_range (read_set n.facts) (Known n.facts) (set_range n.facts) n.bars 0 bs p₄ h p₅ h_read).0 in
+    let counts : Spans bs p (n.facts ∷ length a ∷ length g ∷ length h ∷ []) p₁ = rw (← as_many_a, ← as_many_g, ← as_many_h) (counts_spans bs p p₁ n n_read) in
     let Taken : Outline × ℕ → Type 0 = λ y. Spans bs p (written y.0) y.1 × (length bs ≤ y.1) in
     subst Taken (same_ok _ (o, q) done) (
-      spans_append bs p p₁ p₆ (n.facts ∷ n.actions ∷ n.groups ∷ n.bars ∷ []) _ (counts_spans bs p p₁ n n_read)
+      spans_append bs p p₁ p₆ (n.facts ∷ length a ∷ length g ∷ length h ∷ []) _ counts
           (spans_append bs p₁ p₂ p₆ (ends_bytes x.initial x.goal) _ (ends_spans bs low n.facts p₁ p₂ x x_read)
           (spans_append bs p₂ p₃ p₆ _ _ actions (spans_append bs p₃ p₄ p₆ _ _ groups (rw stop.0 at bars)))),
       stop.1,

@@ -1,5 +1,5 @@
-pub mod Widths
 pub mod Turns
+pub mod Widths
 pub mod Ranges
 pub mod Outlines
 pub mod Order

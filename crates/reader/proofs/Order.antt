@@ -1,122 +1,87 @@
 -- The first fault of a whole book, number by number.
-use Rattle.std.proofs.Common.{◌≡◌, ℕ, ◌+◌, ◌<◌, Some, None, Option, ⊎_elim, arith}
-use Rattle.std.proofs.lemmas.Bool.{cases_lt}
+use Rattle.std.proofs.Common.{◌≡◌, ℕ, ◌<◌, ◌⊎◌, Some, ⊎_elim, arith}
 use Rattle.sets.specs.Sets.{Lowest}
 use Rattle.model.specs.Tasks.{Task}
 use Rattle.faults.specs.declared.Fault.{Fault}
 use Rattle.faults.specs.declared.Fault.TheVariants.{Field, BytesLeft, AddsAndDeletes, SharedGroup, NotOneAtStart, BrokenGroup, BarAtStart}
-use Rattle.faults.specs.Faults.{fault_number, fault_record, place, Breaks, FirstBroken}
+use Rattle.faults.specs.Faults.{Breaks, Earlier, FirstBroken}
+
+later : {P : Type 0} (m n : ℕ) → n < m → (m < n) ⊎ ((m ≡ n) × P) → ⊥
+later m n l e = ⊎_elim (λ h. omega (arith, l)) (λ h. let same = h.0 in omega (arith, l)) e
+
+lower : {P : Type 0} (n : ℕ) → (n < n) ⊎ ((n ≡ n) × P) → P
+lower n e = ⊎_elim (λ h. absurd (omega (arith, h))) (λ h. h.1) e
 
 module _ (b : Task) where
-  -- no fault of the whole book has a number below n
-  abbrev pub Clear : ℕ → Type 0
-  Clear n = (e : Fault) → fault_number e < n → Breaks b e → ⊥
+  -- no fault of this kind
+  abbrev pub Free : (ℕ → Fault) → Type 0
+  Free fault = (k : ℕ) → Breaks b (fault k) → ⊥
 
-  -- no fault of the number n has a place with P
-  abbrev pub ClearAt : ℕ → (ℕ → Type 0) → Type 0
-  ClearAt n P = (e : Fault) → fault_number e ≡ n → P (place (fault_record e)) → Breaks b e → ⊥
+  pub unbroken : Free AddsAndDeletes → Free SharedGroup → Free NotOneAtStart → Free BrokenGroup → Free BarAtStart → (f : Fault) → Breaks b f → ⊥
+  unbroken n7 n8 n9 n10 n11 (Field r f) h = h
+  unbroken n7 n8 n9 n10 n11 (BytesLeft at) h = h
+  unbroken n7 n8 n9 n10 n11 (AddsAndDeletes a) h = n7 a h
+  unbroken n7 n8 n9 n10 n11 (SharedGroup g) h = n8 g h
+  unbroken n7 n8 n9 n10 n11 (NotOneAtStart g) h = n9 g h
+  unbroken n7 n8 n9 n10 n11 (BrokenGroup a) h = n10 a h
+  unbroken n7 n8 n9 n10 n11 (BarAtStart i) h = n11 i h
 
-  pub clear_7 : Clear 7
-  clear_7 (Field r f) l h = h
-  clear_7 (BytesLeft at) l h = h
-  clear_7 (AddsAndDeletes a) l h = omega arith
-  clear_7 (SharedGroup g) l h = omega arith
-  clear_7 (NotOneAtStart g) l h = omega arith
-  clear_7 (BrokenGroup a) l h = omega arith
-  clear_7 (BarAtStart i) l h = omega arith
+  module _ (f : Fault) where
+    -- none of this kind comes before f
+    abbrev NoneBefore : (ℕ → Fault) → Type 0
+    NoneBefore fault = (k : ℕ) → Earlier (fault k) f → Breaks b (fault k) → ⊥
 
-  pub clear_at_7 : (P : ℕ → Type 0) → ((a : ℕ) → P a → Breaks b (AddsAndDeletes a) → ⊥) → ClearAt 7 P
-  clear_at_7 P none (Field r f) e p h = h
-  clear_at_7 P none (BytesLeft at) e p h = h
-  clear_at_7 P none (AddsAndDeletes a) e p h = none a p h
-  clear_at_7 P none (SharedGroup g) e p h = omega arith
-  clear_at_7 P none (NotOneAtStart g) e p h = omega arith
-  clear_at_7 P none (BrokenGroup a) e p h = omega arith
-  clear_at_7 P none (BarAtStart i) e p h = omega arith
-
-  pub clear_at_8 : (P : ℕ → Type 0) → ((g : ℕ) → P g → Breaks b (SharedGroup g) → ⊥) → ClearAt 8 P
-  clear_at_8 P none (Field r f) e p h = h
-  clear_at_8 P none (BytesLeft at) e p h = h
-  clear_at_8 P none (AddsAndDeletes a) e p h = omega arith
-  clear_at_8 P none (SharedGroup g) e p h = none g p h
-  clear_at_8 P none (NotOneAtStart g) e p h = omega arith
-  clear_at_8 P none (BrokenGroup a) e p h = omega arith
-  clear_at_8 P none (BarAtStart i) e p h = omega arith
-
-  pub clear_at_9 : (P : ℕ → Type 0) → ((g : ℕ) → P g → Breaks b (NotOneAtStart g) → ⊥) → ClearAt 9 P
-  clear_at_9 P none (Field r f) e p h = h
-  clear_at_9 P none (BytesLeft at) e p h = h
-  clear_at_9 P none (AddsAndDeletes a) e p h = omega arith
-  clear_at_9 P none (SharedGroup g) e p h = omega arith
-  clear_at_9 P none (NotOneAtStart g) e p h = none g p h
-  clear_at_9 P none (BrokenGroup a) e p h = omega arith
-  clear_at_9 P none (BarAtStart i) e p h = omega arith
-
-  pub clear_at_10 : (P : ℕ → Type 0) → ((a : ℕ) → P a → Breaks b (BrokenGroup a) → ⊥) → ClearAt 10 P
-  clear_at_10 P none (Field r f) e p h = h
-  clear_at_10 P none (BytesLeft at) e p h = h
-  clear_at_10 P none (AddsAndDeletes a) e p h = omega arith
-  clear_at_10 P none (SharedGroup g) e p h = omega arith
-  clear_at_10 P none (NotOneAtStart g) e p h = omega arith
-  clear_at_10 P none (BrokenGroup a) e p h = none a p h
-  clear_at_10 P none (BarAtStart i) e p h = omega arith
-
-  pub clear_at_11 : (P : ℕ → Type 0) → ((i : ℕ) → P i → Breaks b (BarAtStart i) → ⊥) → ClearAt 11 P
-  clear_at_11 P none (Field r f) e p h = h
-  clear_at_11 P none (BytesLeft at) e p h = h
-  clear_at_11 P none (AddsAndDeletes a) e p h = omega arith
-  clear_at_11 P none (SharedGroup g) e p h = omega arith
-  clear_at_11 P none (NotOneAtStart g) e p h = omega arith
-  clear_at_11 P none (BrokenGroup a) e p h = omega arith
-  clear_at_11 P none (BarAtStart i) e p h = none i p h
-
-  pub clear_more : (n : ℕ) → Clear n → ClearAt n (λ _. Unit {0}) → Clear (n + 1)
-  clear_more n before here e l h = ⊎_elim (λ lt. before e lt h) (λ ge. here e (omega arith) tt h) (cases_lt (fault_number e) n)
-
-  pub unbroken : Clear 12 → (f : Fault) → Breaks b f → ⊥
-  unbroken before (Field r f) h = h
-  unbroken before (BytesLeft at) h = h
-  unbroken before (AddsAndDeletes a) h = before (AddsAndDeletes a) (omega arith) h
-  unbroken before (SharedGroup g) h = before (SharedGroup g) (omega arith) h
-  unbroken before (NotOneAtStart g) h = before (NotOneAtStart g) (omega arith) h
-  unbroken before (BrokenGroup a) h = before (BrokenGroup a) (omega arith) h
-  unbroken before (BarAtStart i) h = before (BarAtStart i) (omega arith) h
-
-  -- nothing of a lower number is broken, and nothing of the same number at a lower place
-  pub first_from : (f : Fault) → Clear (fault_number f) → Breaks b f → ClearAt (fault_number f) (λ i. i < place (fault_record f)) → FirstBroken b f
-  first_from f before here lower = (here, λ e h. ⊎_elim (λ l. before e l h) (λ same. lower e same.0 same.1 h))
+    first_from : Breaks b f → NoneBefore AddsAndDeletes → NoneBefore SharedGroup → NoneBefore NotOneAtStart → NoneBefore BrokenGroup → NoneBefore BarAtStart → FirstBroken b f
+    first_from here n7 n8 n9 n10 n11 = (here, go)
+      where
+        go : (e : Fault) → Breaks b e → Earlier e f → ⊥
+        go (Field r d) h l = h
+        go (BytesLeft at) h l = h
+        go (AddsAndDeletes a) h l = n7 a l h
+        go (SharedGroup g) h l = n8 g l h
+        go (NotOneAtStart g) h l = n9 g l h
+        go (BrokenGroup a) h l = n10 a l h
+        go (BarAtStart i) h l = n11 i l h
 
   -- ---- the finders, one after the other
 
-  abbrev pub Found : Option ℕ → (ℕ → Fault) → Type 0
-  Found r fault = Lowest r (λ i. Breaks b (fault i))
+  abbrev pub Found : ℕ → (ℕ → Fault) → Type 0
+  Found i fault = Lowest (Some i) (λ k. Breaks b (fault k))
 
-  pub clear_8 : Clear 7 → Found None AddsAndDeletes → Clear 8
-  clear_8 before none = clear_more 7 before (clear_at_7 (λ _. Unit {0}) (λ i _ h. none i h))
+  pub first_7 : (a : ℕ) → Found a AddsAndDeletes → FirstBroken b (AddsAndDeletes a)
+  first_7 a found = first_from (AddsAndDeletes a) found.0
+      (λ k e. found.1 k (lower 7 e))
+      (λ k e. absurd (later 8 7 (omega arith) e))
+      (λ k e. absurd (later 9 7 (omega arith) e))
+      (λ k e. absurd (later 10 7 (omega arith) e))
+      (λ k e. absurd (later 11 7 (omega arith) e))
 
-  pub first_7 : (a : ℕ) → Clear 7 → Found (Some a) AddsAndDeletes → FirstBroken b (AddsAndDeletes a)
-  first_7 a before found = first_from (AddsAndDeletes a) before found.0 (clear_at_7 (λ k. k < a) found.1)
+  module _ (n7 : Free AddsAndDeletes) where
+    pub first_8 : (g : ℕ) → Found g SharedGroup → FirstBroken b (SharedGroup g)
+    first_8 g found = first_from (SharedGroup g) found.0
+        (λ k e. n7 k)
+        (λ k e. found.1 k (lower 8 e))
+        (λ k e. absurd (later 9 8 (omega arith) e))
+        (λ k e. absurd (later 10 8 (omega arith) e))
+        (λ k e. absurd (later 11 8 (omega arith) e))
 
-  pub clear_9 : Clear 8 → Found None SharedGroup → Clear 9
-  clear_9 before none = clear_more 8 before (clear_at_8 (λ _. Unit {0}) (λ i _ h. none i h))
+    module _ (n8 : Free SharedGroup) where
+      pub first_9 : (g : ℕ) → Found g NotOneAtStart → FirstBroken b (NotOneAtStart g)
+      first_9 g found = first_from (NotOneAtStart g) found.0
+          (λ k e. n7 k)
+          (λ k e. n8 k)
+          (λ k e. found.1 k (lower 9 e))
+          (λ k e. absurd (later 10 9 (omega arith) e))
+          (λ k e. absurd (later 11 9 (omega arith) e))
 
-  pub first_8 : (g : ℕ) → Clear 8 → Found (Some g) SharedGroup → FirstBroken b (SharedGroup g)
-  first_8 g before found = first_from (SharedGroup g) before found.0 (clear_at_8 (λ k. k < g) found.1)
+      module _ (n9 : Free NotOneAtStart) where
+        pub first_10 : (a : ℕ) → Found a BrokenGroup → FirstBroken b (BrokenGroup a)
+        first_10 a found = first_from (BrokenGroup a) found.0
+            (λ k e. n7 k)
+            (λ k e. n8 k)
+            (λ k e. n9 k)
+            (λ k e. found.1 k (lower 10 e))
+            (λ k e. absurd (later 11 10 (omega arith) e))
 
-  pub clear_10 : Clear 9 → Found None NotOneAtStart → Clear 10
-  clear_10 before none = clear_more 9 before (clear_at_9 (λ _. Unit {0}) (λ i _ h. none i h))
-
-  pub first_9 : (g : ℕ) → Clear 9 → Found (Some g) NotOneAtStart → FirstBroken b (NotOneAtStart g)
-  first_9 g before found = first_from (NotOneAtStart g) before found.0 (clear_at_9 (λ k. k < g) found.1)
-
-  pub clear_11 : Clear 10 → Found None BrokenGroup → Clear 11
-  clear_11 before none = clear_more 10 before (clear_at_10 (λ _. Unit {0}) (λ i _ h. none i h))
-
-  pub first_10 : (a : ℕ) → Clear 10 → Found (Some a) BrokenGroup → FirstBroken b (BrokenGroup a)
-  first_10 a before found = first_from (BrokenGroup a) before found.0 (clear_at_10 (λ k. k < a) found.1)
-
-  pub clear_12 : Clear 11 → Found None BarAtStart → Clear 12
-  clear_12 before none = clear_more 11 before (clear_at_11 (λ _. Unit {0}) (λ i _ h. none i h))
-
-  pub first_11 : (i : ℕ) → Clear 11 → Found (Some i) BarAtStart → FirstBroken b (BarAtStart i)
-  first_11 i before found = first_from (BarAtStart i) before found.0 (clear_at_11 (λ k. k < i) found.1)
+        pub first_11 : Free BrokenGroup → (i : ℕ) → Found i BarAtStart → FirstBroken b (BarAtStart i)
+        first_11 n10 i found = first_from (BarAtStart i) found.0 (λ k e. n7 k) (λ k e. n8 k) (λ k e. n9 k) (λ k e. n10 k) (λ k e. found.1 k (lower 11 e))

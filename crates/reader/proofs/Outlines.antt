@@ -1,52 +1,53 @@
 -- An outline that is read keeps the limits, and one that breaks no condition is lawful.
-use Rattle.std.proofs.Common.{◌≡◌, ℕ, ◌^◌, ◌<◌, ◌≤◌, ◌⊎◌, List, length, Ok, Err, sym, refl, ap, subst, inl, inr, ⊎_elim, arith}
+use Rattle.std.proofs.Common.{◌≡◌, ℕ, ◌^◌, ◌<◌, ◌≤◌, ◌⊎◌, List, length, Ok, Err, refl, subst, inl, inr, ⊎_elim, arith}
 use lib.Bits.{bit_and}
 use lib.Count.{ones}
 use Rattle.std.proofs.lemmas.Bool.{cases_eq}
+use Rattle.std.specs.List.{All}
 use Rattle.std.specs.Result.{result_map_both}
 use Rattle.sets.specs.Sets.{In, Apart, One}
 use Rattle.sets.proofs.Members.{out_or_in}
 use Rattle.sets.proofs.Counts.{one_from, one_to}
 use Rattle.model.specs.declared.Action.{Action}
-use Rattle.model.specs.Tasks.{Lawful, Fits, Has, idle, action, group}
-use Rattle.faults.specs.declared.Record.TheVariants.{Head, Action as InAction}
+use Rattle.model.specs.Tasks.{Lawful, Fits, idle, action, group}
+use Rattle.faults.specs.declared.Record.TheVariants.{Head, Action as InAction, Group as InGroup, Bar as InBar}
 use Rattle.faults.specs.declared.Fault.{Fault}
 use Rattle.faults.specs.declared.Fault.TheVariants.{Field, AddsAndDeletes, SharedGroup, NotOneAtStart, BrokenGroup, BarAtStart}
-use Rattle.reader.specs.declared.tables.Part.TheVariants.{Groups, Bars}
 use Rattle.book.specs.declared.outline.Outline.{Outline}
-use Rattle.book.specs.Views.{task, Counted, Wide, Padded}
+use Rattle.book.specs.Views.{task}
 use Rattle.faults.specs.Faults.{Breaks}
-use Rattle.reader.specs.Formats.{Read, read_counts, read_ends, read_action, read_set, read_table, part_record, read_end, read_outline, outline_of}
-use Rattle.book.proofs.Fronts.{action_is, group_is, bar_is, actions_are, groups_are, bars_are}
-use Rattle.reader.proofs.Turns.{same_value}
-use Rattle.reader.proofs.Ranges.{follow_ok, counts_range, ends_range, action_range, set_range, Known, KnownAction, Tabled, table_range}
+use Rattle.reader.specs.Formats.{Read, read_counts, read_ends, read_action, read_set, read_many, fault_in, read_end, read_outline, outline_of}
+use Rattle.reader.proofs.Ranges.{same_value, follow_ok, counts_range, ends_range, action_range, set_range, Known, KnownAction, many_range}
 
 -- what every outline that is read keeps
 pub record Tidy (o : Outline) : Type 0 where
   pub facts : (1 ≤ o.facts) × (o.facts ≤ 64)
-  pub counted : Counted o
+  pub few : (length o.actions ≤ 64) × (length o.groups ≤ 16) × (length o.bars ≤ 8)
   pub ends : (o.initial < 2 ^ o.facts) × (o.goal < 2 ^ o.facts)
-  pub actions : Tabled (KnownAction o.facts) 64 idle o.action_count o.actions
-  pub groups : Tabled (Known o.facts) 16 0 o.group_count o.groups
-  pub bars : Tabled (Known o.facts) 8 0 o.bar_count o.bars
+  pub actions : All (KnownAction o.facts) o.actions
+  pub groups : All (Known o.facts) o.groups
+  pub bars : All (Known o.facts) o.bars
 
 read_tidy : (bs : List ℕ) (p : ℕ) (o : Outline) (q : ℕ) → read_outline bs p ≡ Ok (o, q) → Tidy o
 read_tidy bs p o q e =
     let n = follow_ok (Field Head) (read_counts bs p) _ (o, q) e in
-    let x = follow_ok (Field Head) (read_ends n.0.facts bs n.1) _ (o, q) n.3 in
-    let a = follow_ok (λ e. e) (read_table 64 idle (read_action n.0.facts) InAction n.0.actions bs x.1) _ (o, q) x.3 in
-    let g = follow_ok (λ e. e) (read_table 16 0 (read_set n.0.facts) (part_record Groups) n.0.groups bs a.1) _ (o, q) a.3 in
-    let h = follow_ok (λ e. e) (read_table 8 0 (read_set n.0.facts) (part_record Bars) n.0.bars bs g.1) _ (o, q) g.3 in
+    let facts = n.0.facts in
+    let x = follow_ok (Field Head) (read_ends facts bs n.1) _ (o, q) n.3 in
+    let a = follow_ok (fault_in InAction) (read_many (read_action facts) n.0.actions 0 bs x.1) _ (o, q) x.3 in
+    let g = follow_ok (fault_in InGroup) (read_many (read_set facts) n.0.groups 0 bs a.1) _ (o, q) a.3 in
+    let h = follow_ok (fault_in InBar) (read_many (read_set facts) n.0.bars 0 bs g.1) _ (o, q) g.3 in
     let z = follow_ok (λ e. e) (read_end bs h.1) _ (o, q) h.3 in
     let few = counts_range bs p n.0 n.1 n.2 in
-    let facts = n.0.facts in
+    let actions = many_range (read_action facts) (KnownAction facts) (action_range facts) n.0.actions 0 bs x.1 a.0 a.1 a.2 in
+    let groups = many_range (read_set facts) (Known facts) (set_range facts) n.0.groups 0 bs a.1 g.0 g.1 g.2 in
+    let bars = many_range (read_set facts) (Known facts) (set_range facts) n.0.bars 0 bs g.1 h.0 h.1 h.2 in
     subst Tidy (same_value _ o z.1 q z.3) (record {
       facts = few.facts;
-      counted = (few.actions, few.groups, few.bars);
+      few = (omega (arith, few.actions, actions.0), omega (arith, few.groups, groups.0), omega (arith, few.bars, bars.0));
       ends = ends_range facts bs n.1 x.0 x.1 x.2;
-      actions = table_range (read_action facts) InAction (KnownAction facts) (action_range facts) 64 idle n.0.actions bs x.1 a.0 a.1 few.actions a.2;
-      groups = table_range (read_set facts) (part_record Groups) (Known facts) (set_range facts) 16 0 n.0.groups bs a.1 g.0 g.1 few.groups g.2;
-      bars = table_range (read_set facts) (part_record Bars) (Known facts) (set_range facts) 8 0 n.0.bars bs g.1 h.0 h.1 few.bars h.2;
+      actions = actions.1;
+      groups = groups.1;
+      bars = bars.1;
     })
 
 pub outline_tidy : (bs : List ℕ) (o : Outline) → outline_of bs ≡ Ok o → Tidy o
@@ -55,16 +56,6 @@ outline_tidy bs o e = go (read_outline bs 0) e (λ p q h. read_tidy bs 0 p q h)
     go : (r : Read Outline Fault) → result_map_both (λ x. x.0) (λ e. e) r ≡ Ok o → ((p : Outline) (q : ℕ) → r ≡ Ok (p, q) → Tidy p) → Tidy o
     go (Ok (p, q)) k tidy = let same : p ≡ o = cc in subst Tidy same (tidy p q refl)
     go (Err d) k tidy = let no_way : ◌≡◌ {A = ℕ} 0 1 = cc in absurd (omega arith)
-
-pub tidy_wide : (o : Outline) → Tidy o → Wide o
-tidy_wide o t = (t.actions.long, t.groups.long, t.bars.long)
-
-pub tidy_padded : (o : Outline) → Tidy o → Padded o
-tidy_padded o t = record {
-  actions = λ i l m. let e = t.actions.back i l m in (ap (λ (a : Action). a.needs) e, ap (λ (a : Action). a.adds) e, ap (λ (a : Action). a.deletes) e);
-  groups = λ i l m. t.groups.back i l m;
-  bars = λ i l m. t.bars.back i l m;
-}
 
 -- ---- what is not broken holds
 
@@ -99,35 +90,17 @@ fits_stable a g nn = record {
 pub tidy_lawful : (o : Outline) → Tidy o → ((f : Fault) → Breaks (task o) f → ⊥) → Lawful (task o)
 tidy_lawful o t unbroken = record {
   few_facts = t.facts;
-  few_actions = omega (arith, actions, t.counted.0);
-  few_groups = omega (arith, groups, t.counted.1);
-  few_bars = omega (arith, bars, t.counted.2);
+  few_actions = t.few.0;
+  few_groups = t.few.1;
+  few_bars = t.few.2;
   initial_known = t.ends.0;
   goal_known = t.ends.1;
-  actions_known = λ a h. let l = action_in a h in subst (KnownAction o.facts) (sym (action_is o a l)) (t.actions.front a l);
-  groups_known = λ g h. let l = group_in g h in subst (Known o.facts) (sym (group_is o g l)) (t.groups.front g l);
-  bars_known = λ i h. let l = bar_in i h in subst (Known o.facts) (sym (bar_is o i l)) (t.bars.front i l);
+  actions_known = λ a h. t.actions a idle h;
+  groups_known = λ g h. t.groups g 0 h;
+  bars_known = λ i h. t.bars i 0 h;
   consistent = λ a h i p q. unbroken (AddsAndDeletes a) (h, (i, p, q));
   groups_apart = λ g h l m i p q. unbroken (SharedGroup h) (m, (g, l, (i, p, q)));
   one_of_each = λ g h. one_stable o.initial (group (task o) g) (λ n. unbroken (NotOneAtStart g) (h, n));
   fits = λ a g h k. fits_stable (action (task o) a) (group (task o) g) (λ n. unbroken (BrokenGroup a) (h, (g, k, n)));
   no_bar = λ i h p. unbroken (BarAtStart i) (h, p);
 }
-  where
-    actions : length (task o).actions ≡ o.action_count
-    actions = actions_are o (tidy_wide o t) t.counted
-
-    groups : length (task o).groups ≡ o.group_count
-    groups = groups_are o (tidy_wide o t) t.counted
-
-    bars : length (task o).bars ≡ o.bar_count
-    bars = bars_are o (tidy_wide o t) t.counted
-
-    action_in : (a : ℕ) → Has (task o) a → a < o.action_count
-    action_in a h = omega (arith, actions)
-
-    group_in : (g : ℕ) → g < length (task o).groups → g < o.group_count
-    group_in g h = omega (arith, groups)
-
-    bar_in : (i : ℕ) → i < length (task o).bars → i < o.bar_count
-    bar_in i h = omega (arith, bars)

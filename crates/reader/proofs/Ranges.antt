@@ -1,18 +1,22 @@
 -- What a read that succeeds says of its value.
-use Rattle.std.proofs.Common.{◌≡◌, ℕ, zero, suc, ◌+◌, ◌-◌, ◌/◌, ◌%◌, ◌^◌, ◌<◌, ◌≤◌, Bool, true, false, cond, ◌&&◌, eqb, ltb, leb, List, [], ◌∷◌, length, get_or, replicate, Ok, Err, Result, sym, refl, ap, ◌∙◌, subst, ⊎_elim, arith, pow_pos}
-use Rattle.std.proofs.lemmas.List.{length-append, length-replicate, get_or_append_left, get_or-append_right, get_or-replicate}
+use Rattle.std.proofs.Common.{◌≡◌, ℕ, zero, suc, ◌+◌, ◌/◌, ◌%◌, ◌^◌, ◌<◌, ◌≤◌, Bool, true, false, cond, ◌&&◌, eqb, ltb, leb, List, [], ◌∷◌, length, Ok, Err, Result, refl, ap, subst, ⊎_elim, arith, pow_pos}
+use Rattle.std.specs.List.{All}
 use Rattle.std.proofs.lemmas.Bool.{cases_lt, leb-true, ltb-true, eqb-false, and_parts}
 use Rattle.model.specs.declared.Action.{Action}
-use Rattle.faults.specs.declared.Record.{Record}
 use Rattle.faults.specs.declared.FieldFault.{FieldFault}
 use Rattle.faults.specs.declared.FieldFault.TheVariants.{CutShort, OutOfLimits, EmptySet, UnknownFact}
-use Rattle.faults.specs.declared.Fault.TheVariants.{Field}
 use Rattle.reader.specs.declared.records.Counts.{Counts}
 use Rattle.reader.specs.declared.records.Ends.{Ends}
-use Rattle.reader.specs.Formats.{Read, follow, word, read_byte, read_count, read_map, read_set, read_optional, read_counts, read_ends, read_action, read_many, filled_up, read_table}
-use Rattle.reader.proofs.Turns.{same_value, many_length}
+use Rattle.reader.specs.Formats.{Read, follow, word, read_byte, read_count, read_map, read_set, read_optional, read_counts, read_ends, read_action, read_many}
 
 -- ---- reads taken apart
+
+abbrev value_or : {A E : Type 0} → A → Read A E → A
+value_or d (Ok (x, p)) = x
+value_or d (Err e) = d
+
+pub same_value : {A E : Type 0} (x y : A) (p q : ℕ) → ◌≡◌ {A = Read A E} (Ok (x, p)) (Ok (y, q)) → x ≡ y
+same_value x y p q e = ap (value_or x) e
 
 pub follow_ok : {A B E F : Type 0} (wrap : E → F) (r : Read A E) (rest : A → ℕ → Read B F) (z : B × ℕ) → follow wrap r rest ≡ Ok z
     → (x : A) × (p : ℕ) × (r ≡ Ok (x, p)) × (rest x p ≡ Ok z)
@@ -111,37 +115,20 @@ action_range facts bs p a q e =
 
 -- ---- tables
 
--- a table of so many places: of each of the first n P holds, and the others are empty
-pub record Tabled {A : Type 0} (P : A → Type 0) (size : ℕ) (empty : A) (n : ℕ) (t : List A) : Type 0 where
-  pub long : length t ≡ size
-  pub front : (k : ℕ) → k < n → P (get_or t k empty)
-  pub back : (k : ℕ) → n ≤ k → k < size → get_or t k empty ≡ empty
-
-module _ {A : Type 0} (one : List ℕ → ℕ → Read A FieldFault) (record_of : ℕ → Record) (P : A → Type 0)
+module _ {A : Type 0} (one : List ℕ → ℕ → Read A FieldFault) (P : A → Type 0)
     (each : (bs : List ℕ) (p : ℕ) (x : A) (q : ℕ) → one bs p ≡ Ok (x, q) → P x) where
-  many_all : (n i : ℕ) (bs : List ℕ) (p : ℕ) (xs : List A) (q : ℕ) → read_many one record_of n i bs p ≡ Ok (xs, q)
-      → (k : ℕ) (d : A) → k < length xs → P (get_or xs k d)
-  many_all zero i bs p xs q e k d l = let none = ap length (same_value [] xs p q e) in absurd (omega arith)
-  many_all (suc n) i bs p xs q e k d l =
-      let f = follow_ok (Field (record_of i)) (one bs p) _ (xs, q) e in
-      let r = follow_ok (λ e. e) (read_many one record_of n (i + 1) bs f.1) _ (xs, q) f.3 in
-      let All : List A → Type 0 = λ ys. (k : ℕ) (d : A) → k < length ys → P (get_or ys k d) in
-      subst All (same_value _ xs r.1 q r.3) (cons f.0 r.0 (each bs p f.0 f.1 f.2) (many_all n (i + 1) bs f.1 r.0 r.1 r.2)) k d l
+  -- as many are read as are asked for, and P holds of each
+  pub many_range : (n i : ℕ) (bs : List ℕ) (p : ℕ) (xs : List A) (q : ℕ) → read_many one n i bs p ≡ Ok (xs, q) → (length xs ≡ n) × All P xs
+  many_range zero i bs p xs q e =
+      let Read : List A → Type 0 = λ ys. (length ys ≡ 0) × All P ys in
+      subst Read (same_value [] xs p q e) (refl, λ k d l. absurd (omega (arith, l)))
+  many_range (suc n) i bs p xs q e =
+      let f = follow_ok (λ e. (i, e)) (one bs p) _ (xs, q) e in
+      let r = follow_ok (λ e. e) (read_many one n (i + 1) bs f.1) _ (xs, q) f.3 in
+      let rest = many_range n (i + 1) bs f.1 r.0 r.1 r.2 in
+      let Read : List A → Type 0 = λ ys. (length ys ≡ suc n) × All P ys in
+      subst Read (same_value _ xs r.1 q r.3) (ap suc rest.0, cons f.0 r.0 (each bs p f.0 f.1 f.2) rest.1)
     where
-      cons : (y : A) (ys : List A) → P y → ((k : ℕ) (d : A) → k < length ys → P (get_or ys k d)) → (k : ℕ) (d : A) → k < length (y ∷ ys) → P (get_or (y ∷ ys) k d)
+      cons : (y : A) (ys : List A) → P y → All P ys → All P (y ∷ ys)
       cons y ys here rest zero d l = here
-      cons y ys here rest (suc k) d l = rest k d (omega arith)
-
-  tabled : (size : ℕ) (empty : A) (n : ℕ) (xs : List A) → n ≤ size → length xs ≡ n → ((k : ℕ) (d : A) → k < length xs → P (get_or xs k d)) → Tabled P size empty n (filled_up size empty xs)
-  tabled size empty n xs h long all = record {
-    long = length-append xs (replicate (size - length xs) empty) ∙ ap (λ (m : ℕ). length xs + m) (length-replicate (size - length xs) empty) ∙ omega arith;
-    front = λ k l. let in_front : k < length xs = omega arith in subst P (sym (get_or_append_left xs (replicate (size - length xs) empty) empty k in_front)) (all k empty in_front);
-    back = λ k l m. get_or-append_right xs (replicate (size - length xs) empty) n k empty long l ∙ get_or-replicate (size - length xs) (k - n) empty empty (omega arith);
-  }
-
-  pub table_range : (size : ℕ) (empty : A) (n : ℕ) (bs : List ℕ) (p : ℕ) (t : List A) (q : ℕ) → n ≤ size → read_table size empty one record_of n bs p ≡ Ok (t, q) → Tabled P size empty n t
-  unfolding read_table
-  table_range size empty n bs p t q h e =
-      let f = follow_ok (λ e. e) (read_many one record_of n 0 bs p) _ (t, q) e in
-      subst (Tabled P size empty n) (same_value _ t f.1 q f.3)
-      (tabled size empty n f.0 h (many_length one record_of n 0 bs p f.0 f.1 f.2) (many_all n 0 bs p f.0 f.1 f.2))
+      cons y ys here rest (suc k) d l = rest k d (omega (arith, l))

@@ -1,17 +1,13 @@
 -- The bytes of a record or of a table are read as that; and where one is read, its bytes stand.
-use Rattle.std.proofs.Common.{◌≡◌, ℕ, zero, suc, ◌+◌, ◌-◌, ◌*◌, ◌/◌, ◌%◌, ◌<◌, ◌≤◌, Bool, true, false, cond, not, eqb, List, [], ◌∷◌, ◌++◌, length, get_or, take, drop, replicate, Ok, sym, refl, ap, ◌∙◌, subst, one-mul, zero-mul, arith, lit<}
-use Rattle.std.proofs.lemmas.List.{length-drop, length-replicate, length-take-le, get_or-drop, get_or-take, get_or_default, get_or-replicate, take-append-drop, take_at, same_lists}
-use Rattle.std.specs.List.{flat_map}
+use Rattle.std.proofs.Common.{◌≡◌, ℕ, zero, suc, ◌+◌, ◌*◌, ◌/◌, ◌%◌, ◌<◌, ◌≤◌, Bool, true, false, cond, not, eqb, List, [], ◌∷◌, length, get_or, Ok, sym, refl, ap, ◌∙◌, subst, one-mul, zero-mul, arith, lit<}
+use Rattle.std.specs.List.{flat_map, All}
 use Rattle.model.specs.declared.Action.{Action}
-use Rattle.faults.specs.declared.Record.{Record}
 use Rattle.faults.specs.declared.FieldFault.{FieldFault}
-use Rattle.faults.specs.declared.Fault.TheVariants.{Field}
 use Rattle.reader.specs.declared.records.Counts.{Counts}
 use Rattle.reader.specs.declared.records.Ends.{Ends}
-use Rattle.reader.specs.Formats.{Read, read_count, read_map, read_optional, read_counts, read_ends, read_action, read_many, filled_up, read_table}
+use Rattle.reader.specs.Formats.{Read, read_count, read_map, read_optional, read_counts, read_ends, read_action, read_many}
 use Rattle.reader.specs.Written.{field_bytes, bit, ends_bytes, action_bytes}
-use Rattle.reader.proofs.Turns.{many_length}
-use Rattle.reader.proofs.Ranges.{follow_ok, follow_by, same_ok, Limited, KnownEnds, KnownAction, Tabled}
+use Rattle.reader.proofs.Ranges.{follow_ok, follow_by, same_ok, Limited, KnownEnds, KnownAction}
 use Rattle.reader.proofs.Spans.{Spans, spans_none, spans_append, spans_split}
 use Rattle.reader.proofs.Rounds.{count_read, count_spans, map_read, map_spans, optional_read, optional_spans}
 
@@ -140,57 +136,25 @@ module _ (bs : List ℕ) where
 
 -- ---- tables
 
-module _ {A : Type 0} (one : List ℕ → ℕ → Read A FieldFault) (record_of : ℕ → Record) (bytes : A → List ℕ) (bs : List ℕ) where
-  module _ (Good : A → Type 0) (empty : A) (each : (p q : ℕ) (x : A) → Good x → Spans bs p (bytes x) q → one bs p ≡ Ok (x, q)) where
-    many_read : (xs : List A) (i p q : ℕ) → ((k : ℕ) → k < length xs → Good (get_or xs k empty)) → Spans bs p (flat_map bytes xs) q
-        → read_many one record_of (length xs) i bs p ≡ Ok (xs, q)
-    many_read [] i p q good s = let stop : p ≡ q = omega (arith, s.stop) in ap (λ (n : ℕ). Ok ([], n)) stop
-    many_read (x ∷ xs) i p q good s =
-        let here = spans_split bs p q (bytes x) (flat_map bytes xs) s in
-        rw (
-          each p (p + length (bytes x)) x (good 0 (omega arith)) here.0,
-          many_read xs (i + 1) (p + length (bytes x)) q (λ k l. good (suc k) (omega arith)) here.1,
-        )
+module _ {A : Type 0} (one : List ℕ → ℕ → Read A FieldFault) (bytes : A → List ℕ) (bs : List ℕ) where
+  pub many_read : (Good : A → Type 0) → ((p q : ℕ) (x : A) → Good x → Spans bs p (bytes x) q → one bs p ≡ Ok (x, q))
+      → (xs : List A) (i p q : ℕ) → All Good xs → Spans bs p (flat_map bytes xs) q → read_many one (length xs) i bs p ≡ Ok (xs, q)
+  many_read Good each [] i p q good s = let stop : p ≡ q = omega (arith, s.stop) in ap (λ (n : ℕ). Ok ([], n)) stop
+  many_read Good each (x ∷ xs) i p q good s =
+      let here = spans_split bs p q (bytes x) (flat_map bytes xs) s in
+      rw (
+        each p (p + length (bytes x)) x (good 0 x (omega arith)) here.0,
+        many_read Good each xs (i + 1) (p + length (bytes x)) q (λ k d l. good (suc k) d (omega (arith, l))) here.1,
+      )
 
-    pub table_read : (size n p q : ℕ) (t : List A) → n ≤ size → Tabled Good size empty n t → Spans bs p (flat_map bytes (take n t)) q
-        → read_table size empty one record_of n bs p ≡ Ok (t, q)
-    unfolding read_table
-    table_read size n p q t h good s =
-        let reads : read_many one record_of n 0 bs p ≡ Ok (take n t, q) =
-        ap (λ (m : ℕ). read_many one record_of m 0 bs p) (sym long)
-        ∙ many_read (take n t) 0 p q (λ k l. let lt : k < n = omega (arith, long) in rw (get_or-take n t k empty lt) (good.front k lt)) s in
-        rw reads (ap (λ (l : List A). Ok (l, q)) whole)
-      where
-        long : length (take n t) ≡ n
-        long = length-take-le n t (omega (arith, good.long))
-
-        rest : drop n t ≡ replicate (size - n) empty
-        rest = same_lists _ _
-            (length-drop n t ∙ ap (λ (m : ℕ). m - n) good.long ∙ sym (length-replicate (size - n) empty))
-            (λ k d l. let lt : k < size - n = omega (arith, length-drop n t, good.long) in
-            get_or-drop n t k d ∙ get_or_default t (n + k) d empty (omega (arith, good.long))
-            ∙ good.back (n + k) (omega arith) (omega arith) ∙ sym (get_or-replicate (size - n) k empty d lt))
-
-        whole : filled_up size empty (take n t) ≡ t
-        whole = ap (λ (m : ℕ). take n t ++ replicate (size - m) empty) long ∙ ap (λ (l : List A). take n t ++ l) (sym rest) ∙ take-append-drop n t
-
-  module _ (each : (p q : ℕ) (x : A) → one bs p ≡ Ok (x, q) → Spans bs p (bytes x) q) where
-    many_spans : (n i p q : ℕ) (xs : List A) → read_many one record_of n i bs p ≡ Ok (xs, q) → Spans bs p (flat_map bytes xs) q
-    many_spans zero i p q xs e =
-        let same : ◌≡◌ {A = List A × ℕ} ([], p) (xs, q) = same_ok _ _ e in
-        subst (λ (x : List A × ℕ). Spans bs p (flat_map bytes x.0) x.1) same (spans_none bs p)
-    many_spans (suc n) i p q xs e =
-        let f = follow_ok (Field (record_of i)) (one bs p) _ (xs, q) e in
-        let r = follow_ok (λ e. e) (read_many one record_of n (i + 1) bs f.1) _ (xs, q) f.3 in
-        let same : ◌≡◌ {A = List A × ℕ} (f.0 ∷ r.0, r.1) (xs, q) = same_ok _ _ r.3 in
-        subst (λ (x : List A × ℕ). Spans bs p (flat_map bytes x.0) x.1) same
-        (spans_append bs p f.1 r.1 (bytes f.0) (flat_map bytes r.0) (each p f.1 f.0 f.2) (many_spans n (i + 1) f.1 r.1 r.0 r.2))
-
-    pub table_spans : (size : ℕ) (empty : A) (n p q : ℕ) (t : List A) → read_table size empty one record_of n bs p ≡ Ok (t, q) → Spans bs p (flat_map bytes (take n t)) q
-    unfolding read_table
-    table_spans size empty n p q t e =
-        let f = follow_ok (λ e. e) (read_many one record_of n 0 bs p) _ (t, q) e in
-        let same : ◌≡◌ {A = List A × ℕ} (filled_up size empty f.0, f.1) (t, q) = same_ok _ _ f.3 in
-        let front = take_at f.0 (replicate (size - length f.0) empty) n (many_length one record_of n 0 bs p f.0 f.1 f.2) in
-        subst (λ (x : List A × ℕ). Spans bs p (flat_map bytes (take n x.0)) x.1) same
-        (rw front (many_spans n 0 p f.1 f.0 f.2))
+  pub many_spans : ((p q : ℕ) (x : A) → one bs p ≡ Ok (x, q) → Spans bs p (bytes x) q)
+      → (n i p q : ℕ) (xs : List A) → read_many one n i bs p ≡ Ok (xs, q) → Spans bs p (flat_map bytes xs) q
+  many_spans each zero i p q xs e =
+      let same : ◌≡◌ {A = List A × ℕ} ([], p) (xs, q) = same_ok _ _ e in
+      subst (λ (x : List A × ℕ). Spans bs p (flat_map bytes x.0) x.1) same (spans_none bs p)
+  many_spans each (suc n) i p q xs e =
+      let f = follow_ok (λ e. (i, e)) (one bs p) _ (xs, q) e in
+      let r = follow_ok (λ e. e) (read_many one n (i + 1) bs f.1) _ (xs, q) f.3 in
+      let same : ◌≡◌ {A = List A × ℕ} (f.0 ∷ r.0, r.1) (xs, q) = same_ok _ _ r.3 in
+      subst (λ (x : List A × ℕ). Spans bs p (flat_map bytes x.0) x.1) same
+      (spans_append bs p f.1 r.1 (bytes f.0) (flat_map bytes r.0) (each p f.1 f.0 f.2) (many_spans each n (i + 1) f.1 r.1 r.0 r.2))

@@ -1,8 +1,8 @@
 -- The format of a book's file: what its bytes say, read from front to back, or the first field at fault.
-use Rattle.std.specs.Prelude.{ℕ, zero, suc, ◌+◌, ◌-◌, ◌*◌, ◌/◌, ◌%◌, ◌^◌, Bool, true, false, cond, ◌&&◌, List, [], ◌∷◌, ◌++◌, length, replicate, Ok, Err, Result, ◌==◌, nat_le, nat_lt, slice_index}
+use Rattle.std.specs.Prelude.{◌≡◌, ℕ, zero, suc, ◌+◌, ◌/◌, ◌%◌, ◌^◌, Bool, true, false, cond, ◌&&◌, List, [], ◌∷◌, length, take, drop, Ok, Err, Result, ◌==◌, nat_le, nat_lt, slice_index}
+use Rattle.std.specs.Int.{w64, from_le_bytes}
 use Rattle.std.specs.Result.{result_map_both}
 use Rattle.model.specs.declared.Action.{Action}
-use Rattle.model.specs.Tasks.{idle}
 use Rattle.faults.specs.declared.Record.{Record}
 use Rattle.faults.specs.declared.Record.TheVariants.{Head, Action as InAction, Group as InGroup, Bar as InBar}
 use Rattle.faults.specs.declared.FieldFault.{FieldFault}
@@ -11,8 +11,7 @@ use Rattle.faults.specs.declared.Fault.{Fault}
 use Rattle.faults.specs.declared.Fault.TheVariants.{Field, BytesLeft}
 use Rattle.reader.specs.declared.records.Counts.{Counts}
 use Rattle.reader.specs.declared.records.Ends.{Ends}
-use Rattle.reader.specs.declared.tables.Part.{Part}
-use Rattle.reader.specs.declared.tables.Part.TheVariants.{Groups, Bars}
+use Rattle.reader.specs.declared.cursor.Reader.{Reader}
 use Rattle.book.specs.declared.outline.Outline.{Outline}
 
 -- a value with the place of the byte after it, or a fault
@@ -33,6 +32,10 @@ abbrev pub with_place : {A E : Type 0} → Result A E → ℕ → Read A E
 with_place (Ok x) p = Ok (x, p)
 with_place (Err e) p = Err e
 
+-- the call read this of the file, and left the reader at the byte after it
+abbrev pub Took : {A E : Type 0} → (List ℕ → ℕ → Read A E) → Reader → Result A E → Reader → Type 0
+Took read before result after = (after.bytes.now ≡ before.bytes.now) × (with_place result after.pos ≡ read before.bytes.now before.pos)
+
 -- ---- fields
 
 abbrev pub read_byte : List ℕ → ℕ → Read ℕ FieldFault
@@ -48,9 +51,7 @@ read_map limit bs p = then (read_byte bs p) λ map q. cond (nat_lt map limit) (O
 
 -- eight bytes, the lowest first
 abbrev pub word : List ℕ → ℕ → ℕ
-word bs p =
-    slice_index bs p + slice_index bs (p + 1) * 2 ^ 8 + slice_index bs (p + 2) * 2 ^ 16 + slice_index bs (p + 3) * 2 ^ 24
-    + slice_index bs (p + 4) * 2 ^ 32 + slice_index bs (p + 5) * 2 ^ 40 + slice_index bs (p + 6) * 2 ^ 48 + slice_index bs (p + 7) * 2 ^ 56
+word bs p = from_le_bytes w64 (take 8 (drop p bs))
 
 -- a set of facts below their number that is not empty
 abbrev pub read_set : ℕ → List ℕ → ℕ → Read ℕ FieldFault
@@ -94,24 +95,15 @@ read_action facts bs p =
 
 -- ---- the book
 
--- n records one after the other, the first of them the i-th of its kind
-abbrev pub read_many : {A : Type 0} → (List ℕ → ℕ → Read A FieldFault) → (ℕ → Record) → ℕ → ℕ → List ℕ → ℕ → Read (List A) Fault
-read_many one record_of zero i bs p = Ok ([], p)
-read_many one record_of (suc n) i bs p =
-    follow (Field (record_of i)) (one bs p) λ x q. then (read_many one record_of n (i + 1) bs q) λ rest e. Ok (x ∷ rest, e)
+-- n records one after the other, the first of them the i-th of its kind; a fault says in which of them it is
+abbrev pub read_many : {A : Type 0} → (List ℕ → ℕ → Read A FieldFault) → ℕ → ℕ → List ℕ → ℕ → Read (List A) (ℕ × FieldFault)
+read_many one zero i bs p = Ok ([], p)
+read_many one (suc n) i bs p =
+    follow (λ e. (i, e)) (one bs p) λ x q. then (read_many one n (i + 1) bs q) λ rest e. Ok (x ∷ rest, e)
 
--- so many places, those past the list empty
-abbrev pub filled_up : {A : Type 0} → ℕ → A → List A → List A
-filled_up size empty xs = xs ++ replicate (size - length xs) empty
-
--- a table of so many places, with n records in front
-unfoldable pub read_table : {A : Type 0} → ℕ → A → (List ℕ → ℕ → Read A FieldFault) → (ℕ → Record) → ℕ → List ℕ → ℕ → Read (List A) Fault
-read_table size empty one record_of n bs p = then (read_many one record_of n 0 bs p) λ xs q. Ok (filled_up size empty xs, q)
-
--- groups and bars are plain sets
-abbrev pub part_record : Part → ℕ → Record
-part_record Groups i = InGroup i
-part_record Bars i = InBar i
+-- the fault of a record of this kind
+abbrev pub fault_in : (ℕ → Record) → ℕ × FieldFault → Fault
+fault_in kind e = Field (kind e.0) e.1
 
 -- no byte is left
 abbrev pub read_end : List ℕ → ℕ → Read (Unit {0}) Fault
@@ -122,16 +114,13 @@ abbrev pub read_outline : List ℕ → ℕ → Read Outline Fault
 read_outline bs p =
     follow (Field Head) (read_counts bs p) λ n p1.
     follow (Field Head) (read_ends n.facts bs p1) λ ends p2.
-    then (read_table 64 idle (read_action n.facts) InAction n.actions bs p2) λ actions p3.
-    then (read_table 16 0 (read_set n.facts) (part_record Groups) n.groups bs p3) λ groups p4.
-    then (read_table 8 0 (read_set n.facts) (part_record Bars) n.bars bs p4) λ bars p5.
+    follow (fault_in InAction) (read_many (read_action n.facts) n.actions 0 bs p2) λ actions p3.
+    follow (fault_in InGroup) (read_many (read_set n.facts) n.groups 0 bs p3) λ groups p4.
+    follow (fault_in InBar) (read_many (read_set n.facts) n.bars 0 bs p4) λ bars p5.
     then (read_end bs p5) λ _ p6.
     Ok (
       record {
         facts = n.facts;
-        action_count = n.actions;
-        group_count = n.groups;
-        bar_count = n.bars;
         initial = ends.initial;
         goal = ends.goal;
         actions = actions;

@@ -1,5 +1,6 @@
 -- The bytes that write a book.
-use Rattle.std.specs.Prelude.{ℕ, ◌+◌, ◌/◌, ◌%◌, ◌^◌, cond, List, [], ◌∷◌, ◌++◌, ◌==◌}
+use Rattle.std.specs.Prelude.{ℕ, ◌+◌, cond, List, [], ◌∷◌, ◌++◌, length, ◌==◌}
+use Rattle.std.specs.Int.{w64, to_le_bytes}
 use Rattle.std.specs.List.{flat_map}
 use Rattle.model.specs.declared.Action.{Action}
 use Rattle.book.specs.declared.outline.Outline.{Outline}
@@ -7,9 +8,7 @@ use Rattle.book.specs.Views.{task}
 
 -- a set takes eight bytes, the lowest first
 unfoldable pub set_bytes : ℕ → List ℕ
-set_bytes s =
-    s % 256 ∷ s / 2 ^ 8 % 256 ∷ s / 2 ^ 16 % 256 ∷ s / 2 ^ 24 % 256
-    ∷ s / 2 ^ 32 % 256 ∷ s / 2 ^ 40 % 256 ∷ s / 2 ^ 48 % 256 ∷ s / 2 ^ 56 % 256 ∷ []
+set_bytes s = to_le_bytes w64 s
 
 -- an empty set has no field
 abbrev pub field_bytes : ℕ → List ℕ
@@ -31,7 +30,7 @@ action_bytes a =
 
 -- the four counts
 abbrev pub counts_bytes : Outline → List ℕ
-counts_bytes o = o.facts ∷ o.action_count ∷ o.group_count ∷ o.bar_count ∷ []
+counts_bytes o = o.facts ∷ length (task o).actions ∷ length (task o).groups ∷ length (task o).bars ∷ []
 
 -- the counts, the head record, the actions, the groups and the bars
 unfoldable pub written : Outline → List ℕ

@@ -1,66 +1,47 @@
 // The five conditions on a whole book, each by the lowest action, group or bar that breaks it.
-ghost use Rattle.std.specs.Prelude.{◌≡◌, ℕ, ◌<◌, Decides};
+ghost use Rattle.std.specs.Prelude.{ℕ, ◌<◌, Decides, length, slice_index};
 ghost use Rattle.sets.specs.Sets.{In, Apart, Meet, One, Lowest};
-ghost use Rattle.model.specs.Tasks.{Fits, Has, action, group};
+ghost use Rattle.model.specs.Tasks.{Fits};
 ghost use Rattle.faults.specs.declared.Fault.TheVariants.{AddsAndDeletes, SharedGroup, NotOneAtStart, BrokenGroup, BarAtStart};
-ghost use Rattle.book.specs.Views.{task, Counted, Wide};
+ghost use Rattle.book.specs.Views.{task};
 ghost use Rattle.faults.specs.Faults.{Breaks};
 
 use book::outline::Outline;
 use model::Action;
 
 pub fn adds_and_deletes(outline: &Outline) -> Option<u8>
-    requires counted { Counted outline.now }
-    requires wide { Wide outline.now }
     ensures { Lowest result (λ a. Breaks (task outline.now) (AddsAndDeletes a)) }
 {
-    for i in 0..outline.action_count {
-        let a = outline.actions[i as usize];
-        if sets::meets(a.adds, a.deletes) {
-            return Some(i);
-        }
-    }
-    None
+    outline
+        .actions
+        .iter()
+        .position(|a| sets::meets(a.adds, a.deletes))
+        .map(|i| i as u8)
 }
 
 // Whether the group shares a fact with an earlier one.
-fn shares(outline: &Outline, g: u8) -> bool
-    requires counted { Counted outline.now }
-    requires within { g < outline.now.group_count }
-    ensures { Decides result ((h : ℕ) × (h < g) × Meet (group (task outline.now) h) (group (task outline.now) g)) }
+fn shares(groups: &[u64], g: usize) -> bool
+    requires { g < length groups.now }
+    ensures { Decides result ((h : ℕ) × (h < g) × Meet (slice_index groups.now h) (slice_index groups.now g)) }
 {
-    for h in 0..g {
-        if sets::meets(outline.groups[h as usize], outline.groups[g as usize]) {
-            return true;
-        }
-    }
-    false
+    groups[..g].iter().any(|h| sets::meets(*h, groups[g]))
 }
 
 pub fn shared_group(outline: &Outline) -> Option<u8>
-    requires counted { Counted outline.now }
-    requires wide { Wide outline.now }
     ensures { Lowest result (λ g. Breaks (task outline.now) (SharedGroup g)) }
 {
-    for g in 0..outline.group_count {
-        if shares(outline, g) {
-            return Some(g);
-        }
-    }
-    None
+    let groups = outline.groups.as_slice();
+    (0..groups.len() as u8).find(|g| shares(groups, *g as usize))
 }
 
 pub fn not_one_at_start(outline: &Outline) -> Option<u8>
-    requires counted { Counted outline.now }
-    requires wide { Wide outline.now }
     ensures { Lowest result (λ g. Breaks (task outline.now) (NotOneAtStart g)) }
 {
-    for g in 0..outline.group_count {
-        if !sets::share_one(outline.initial, outline.groups[g as usize]) {
-            return Some(g);
-        }
-    }
-    None
+    outline
+        .groups
+        .iter()
+        .position(|g| !sets::share_one(outline.initial, *g))
+        .map(|g| g as u8)
 }
 
 fn rests(a: Action, g: u64) -> bool
@@ -87,42 +68,29 @@ fn fits(a: Action, g: u64) -> bool
     sets::share_at_most_one(a.needs, g) && (rests(a, g) || moves(a, g))
 }
 
-// Whether the action fits not every group.
-fn breaks(outline: &Outline, a: Action) -> bool
-    requires counted { Counted outline.now }
-    requires wide { Wide outline.now }
-    ensures { Decides result ((g : ℕ) × (g < outline.now.group_count) × (Fits a (group (task outline.now) g) → ⊥)) }
+// Whether some group does not fit the action.
+fn breaks(groups: &[u64], a: Action) -> bool
+    ensures { Decides result ((g : ℕ) × (g < length groups.now) × (Fits a (slice_index groups.now g) → ⊥)) }
 {
-    for g in 0..outline.group_count {
-        if !fits(a, outline.groups[g as usize]) {
-            return true;
-        }
-    }
-    false
+    groups.iter().any(|g| !fits(a, *g))
 }
 
 pub fn broken_group(outline: &Outline) -> Option<u8>
-    requires counted { Counted outline.now }
-    requires wide { Wide outline.now }
     ensures { Lowest result (λ a. Breaks (task outline.now) (BrokenGroup a)) }
 {
-    for i in 0..outline.action_count {
-        if breaks(outline, outline.actions[i as usize]) {
-            return Some(i);
-        }
-    }
-    None
+    outline
+        .actions
+        .iter()
+        .position(|a| breaks(&outline.groups, *a))
+        .map(|i| i as u8)
 }
 
 pub fn bar_at_start(outline: &Outline) -> Option<u8>
-    requires counted { Counted outline.now }
-    requires wide { Wide outline.now }
     ensures { Lowest result (λ i. Breaks (task outline.now) (BarAtStart i)) }
 {
-    for i in 0..outline.bar_count {
-        if sets::is_part(outline.bars[i as usize], outline.initial) {
-            return Some(i);
-        }
-    }
-    None
+    outline
+        .bars
+        .iter()
+        .position(|bar| sets::is_part(*bar, outline.initial))
+        .map(|i| i as u8)
 }

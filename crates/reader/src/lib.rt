@@ -3,7 +3,6 @@
 
 mod conditions;
 mod cursor;
-mod fields;
 pub mod read;
 mod records;
 mod tables;

@@ -1,18 +1,16 @@
 ghost use Rattle.std.specs.Prelude.{◌≡◌};
-ghost use Rattle.reader.specs.Formats.{with_place, read_end, read_outline, outline_of};
+ghost use Rattle.reader.specs.Formats.{with_place, Took, read_end, read_outline, outline_of};
 ghost use Rattle.reader.specs.Reads.{Reads, Accepts};
 
 use crate::conditions;
 use crate::cursor::Reader;
-use crate::tables::Part;
 use book::book::Book;
 use book::outline::Outline;
-use faults::Fault;
+use faults::{Fault, Record};
 
 impl<'a> Reader<'a> {
     fn end(&mut self) -> Result<(), Fault>
-        ensures same { self.new.bytes.now ≡ self.old.bytes.now }
-        ensures value { with_place result self.new.pos ≡ read_end self.old.bytes.now self.old.pos }
+        ensures { Took read_end self.old result self.new }
     {
         if self.pos < self.bytes.len() {
             return Err(Fault::BytesLeft(self.pos));
@@ -21,19 +19,22 @@ impl<'a> Reader<'a> {
     }
 
     fn outline(&mut self) -> Result<Outline, Fault>
-        ensures { with_place result self.new.pos ≡ read_outline self.old.bytes.now self.old.pos }
+        ensures { Took read_outline self.old result self.new }
     {
         let counts = self.counts()?;
         let ends = self.ends(counts.facts)?;
-        let actions = self.actions(counts.facts, counts.actions)?;
-        let groups = self.sets::<16>(counts.facts, counts.groups, Part::Groups)?;
-        let bars = self.sets::<8>(counts.facts, counts.bars, Part::Bars)?;
+        let actions = self
+            .table(counts.facts, counts.actions)
+            .map_err(|(i, e)| Fault::Field(Record::Action(i), e))?;
+        let groups = self
+            .table(counts.facts, counts.groups)
+            .map_err(|(i, e)| Fault::Field(Record::Group(i), e))?;
+        let bars = self
+            .table(counts.facts, counts.bars)
+            .map_err(|(i, e)| Fault::Field(Record::Bar(i), e))?;
         self.end()?;
         Ok(Outline {
             facts: counts.facts,
-            action_count: counts.actions,
-            group_count: counts.groups,
-            bar_count: counts.bars,
             initial: ends.initial,
             goal: ends.goal,
             actions,
@@ -56,6 +57,7 @@ pub fn read(bytes: &[u8]) -> Result<Book, Fault>
     ensures accepts { Accepts bytes.now result }
 {
     let outline = outline(bytes)?;
+    // No `?`: each finder answers a number, or none where its condition holds, and each number goes into another variant.
     if let Some(a) = conditions::adds_and_deletes(&outline) {
         return Err(Fault::AddsAndDeletes(a));
     }

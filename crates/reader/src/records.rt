@@ -1,6 +1,5 @@
 // The readers of records, each a list of fields.
-ghost use Rattle.std.specs.Prelude.{◌≡◌};
-ghost use Rattle.reader.specs.Formats.{with_place, read_counts, read_ends, read_action};
+ghost use Rattle.reader.specs.Formats.{Took, read_counts, read_ends, read_action};
 
 use crate::cursor::Reader;
 use faults::FieldFault;
@@ -24,8 +23,7 @@ pub struct Ends {
 
 impl<'a> Reader<'a> {
     pub fn counts(&mut self) -> Result<Counts, FieldFault>
-        ensures same { self.new.bytes.now ≡ self.old.bytes.now }
-        ensures value { with_place result self.new.pos ≡ read_counts self.old.bytes.now self.old.pos }
+        ensures { Took read_counts self.old result self.new }
     {
         let facts = self.count(1, 64)?;
         let actions = self.count(0, 64)?;
@@ -40,8 +38,7 @@ impl<'a> Reader<'a> {
     }
 
     pub fn ends(&mut self, facts: u8) -> Result<Ends, FieldFault>
-        ensures same { self.new.bytes.now ≡ self.old.bytes.now }
-        ensures value { with_place result self.new.pos ≡ read_ends facts self.old.bytes.now self.old.pos }
+        ensures { Took (read_ends facts) self.old result self.new }
     {
         let map = self.map(4)?;
         let initial = self.optional(map % 2 == 1, facts)?;
@@ -50,8 +47,7 @@ impl<'a> Reader<'a> {
     }
 
     pub fn action(&mut self, facts: u8) -> Result<Action, FieldFault>
-        ensures same { self.new.bytes.now ≡ self.old.bytes.now }
-        ensures value { with_place result self.new.pos ≡ read_action facts self.old.bytes.now self.old.pos }
+        ensures { Took (read_action facts) self.old result self.new }
     {
         let map = self.map(8)?;
         let needs = self.optional(map % 2 == 1, facts)?;

@@ -4,18 +4,17 @@
 #![tactic(auto)]
 
 use book::book::Book;
-use faults::{Fault, Record};
+use faults::Fault;
 use reader::read::read;
 use std::alloc::{AllocError, Global};
 use std::io;
-use writer::sizes::file_length;
+use writer::sizes::{LONGEST, file_length};
 use writer::write::write;
 
-// The most bytes that a book's file has, and what the buffers are filled with.
-const LONGEST: usize = 1813;
-
+// What the buffers are filled with.
 const UNTOUCHED: u8 = 0xee;
 
+// By hand, since the library's decoder refuses a digit that this program reads as 0.
 fn digit(b: u8) -> u8 {
     match b {
         b'0'..=b'9' => b - b'0',
@@ -26,11 +25,10 @@ fn digit(b: u8) -> u8 {
 
 // The bytes that pairs of digits write.
 fn decoded(heap: Global, text: &str) -> Result<Vec<u8>, AllocError> {
-    let mut bytes = Vec::new(heap);
-    for pair in text.as_bytes().chunks_exact(2) {
-        bytes.push(digit(pair[0]).wrapping_mul(16).wrapping_add(digit(pair[1])))?;
-    }
-    Ok(bytes)
+    text.as_bytes()
+        .chunks_exact(2)
+        .map(|pair| digit(pair[0]).wrapping_mul(16).wrapping_add(digit(pair[1])))
+        .collect(heap)
 }
 
 // Whether the book is written back as the bytes that it was read from, and no byte past them.
@@ -56,29 +54,21 @@ fn leaves_short(book: &Book) -> bool {
 }
 
 fn show_book(rt: &HostRuntime, book: &Book, bytes: &[u8]) -> io::Result<()> {
-    let o = &book.outline;
-    let (n, m, g, h) = (o.facts, o.action_count, o.group_count, o.bar_count);
+    let facts = book.outline.facts;
+    let actions = book.actions().len();
+    let groups = book.groups().len();
+    let bars = book.bars().len();
     let back = comes_back(book, bytes);
     let short = leaves_short(book);
-    println!(rt; "ok {n} {m} {g} {h} back {back} short {short}")
-}
-
-fn show_record(rt: &HostRuntime, record: Record) -> io::Result<()> {
-    match record {
-        Record::Head => print!(rt; " head"),
-        Record::Action(i) => print!(rt; " action {i}"),
-        Record::Group(i) => print!(rt; " group {i}"),
-        Record::Bar(i) => print!(rt; " bar {i}"),
-    }
+    println!(rt; "ok {facts} {actions} {groups} {bars} back {back} short {short}")
 }
 
 fn show_fault(rt: &HostRuntime, fault: Fault) -> io::Result<()> {
     let number = fault.number();
-    print!(rt; "no {number}")?;
-    show_record(rt, fault.record())?;
+    let record = fault.record();
     match fault.first_byte() {
-        Some(at) => println!(rt; " at {at}"),
-        None => println!(rt; ""),
+        Some(at) => println!(rt; "no {number} {record} at {at}"),
+        None => println!(rt; "no {number} {record}"),
     }
 }
 

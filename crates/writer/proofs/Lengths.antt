@@ -1,37 +1,34 @@
--- How long each part of a file is.
-use Rattle.std.proofs.Common.{◌≡◌, ℕ, zero, suc, ◌+◌, ◌*◌, ◌<◌, ◌≤◌, List, [], ◌∷◌, ◌++◌, length, get_or, take, sym, refl, ap, ◌∙◌, ⊎_elim, arith}
+-- How many bytes the parts of a file have, at most.
+use Rattle.std.proofs.Common.{◌≡◌, ℕ, zero, suc, ◌+◌, ◌*◌, ◌<◌, ◌≤◌, List, [], ◌∷◌, ◌++◌, length, get_or, take, sym, ap, ◌∙◌, ⊎_elim, arith}
 use Rattle.std.specs.List.{flat_map}
 use Rattle.std.proofs.lemmas.List.{length-append, flat_map_more, take_more}
 use Rattle.std.proofs.lemmas.Bool.{cases_eq, eq-eqb, ne_eqb}
 use Rattle.model.specs.declared.Action.{Action}
-use Rattle.book.specs.declared.book.Book.{Book}
+use Rattle.model.specs.Tasks.{Lawful}
 use Rattle.book.specs.declared.outline.Outline.{Outline}
 use Rattle.book.specs.Views.{task}
-use Rattle.book.proofs.Fronts.{actions_are, groups_are, bars_are}
-use Rattle.reader.specs.Written.{set_bytes, field_bytes, ends_bytes, action_bytes, written}
+use Rattle.reader.specs.Written.{set_bytes, field_bytes, ends_bytes, action_bytes}
 
 pub field_none : (s : ℕ) → s ≡ 0 → field_bytes s ≡ []
 field_none s z = rw (eq-eqb s 0 z)
 
-pub field_size : (s : ℕ) → (s ≡ 0 → ⊥) → length (field_bytes s) ≡ 8
+pub field_some : (s : ℕ) → (s ≡ 0 → ⊥) → field_bytes s ≡ set_bytes s
+field_some s some = rw (ne_eqb s 0 some)
+
+set_size : (s : ℕ) → length (set_bytes s) ≤ 8
 unfolding set_bytes
-field_size s some = rw (ne_eqb s 0 some)
+set_size s = omega arith
 
 pub field_most : (s : ℕ) → length (field_bytes s) ≤ 8
-field_most s = ⊎_elim (λ z. omega (arith, ap length (field_none s z))) (λ some. omega (arith, field_size s some)) (cases_eq s 0)
+field_most s = ⊎_elim (λ z. omega (arith, ap length (field_none s z))) (λ some. omega (arith, ap length (field_some s some), set_size s)) (cases_eq s 0)
 
-pub ends_size : (initial goal : ℕ) → length (ends_bytes initial goal) ≡ 1 + length (field_bytes initial) + length (field_bytes goal)
+ends_most : (initial goal : ℕ) → length (ends_bytes initial goal) ≤ 17
 unfolding ends_bytes
-ends_size initial goal = simp length-append (omega arith)
-
-pub action_size : (a : Action) → length (action_bytes a) ≡ 1 + length (field_bytes a.needs) + length (field_bytes a.adds) + length (field_bytes a.deletes)
-unfolding action_bytes
-action_size a = simp length-append (omega arith)
+ends_most initial goal = simp length-append (omega (arith, field_most initial, field_most goal))
 
 action_most : (a : Action) → length (action_bytes a) ≤ 25
-action_most a = omega (arith, action_size a, field_most a.needs, field_most a.adds, field_most a.deletes)
-
--- ---- tables
+unfolding action_bytes
+action_most a = simp length-append (omega (arith, field_most a.needs, field_most a.adds, field_most a.deletes))
 
 module _ {A : Type 0} (f : A → List ℕ) where
   pub joined_step : (xs : List A) (i : ℕ) (d : A) → i < length xs → flat_map f (take (i + 1) xs) ≡ flat_map f (take i xs) ++ f (get_or xs i d)
@@ -46,30 +43,15 @@ module _ {A : Type 0} (f : A → List ℕ) where
   pub joined_room : (xs : List A) (i : ℕ) (d : A) → i < length xs → length (flat_map f (take i xs)) + length (f (get_or xs i d)) ≤ length (flat_map f xs)
   joined_room xs i d h = omega (arith, front_most (i + 1) xs, ap length (joined_step xs i d h), length-append (flat_map f (take i xs)) (f (get_or xs i d)))
 
-pub actions_most : (xs : List Action) → length (flat_map action_bytes xs) ≤ 25 * length xs
+actions_most : (xs : List Action) → length (flat_map action_bytes xs) ≤ 25 * length xs
 actions_most [] = omega arith
 actions_most (a ∷ xs) = omega (arith, actions_most xs, action_most a, length-append (action_bytes a) (flat_map action_bytes xs))
 
-sets_size : (xs : List ℕ) → length (flat_map set_bytes xs) ≡ 8 * length xs
-unfolding set_bytes
-sets_size [] = refl
-sets_size (s ∷ xs) = omega (arith, sets_size xs, length-append (set_bytes s) (flat_map set_bytes xs))
+sets_most : (xs : List ℕ) → length (flat_map set_bytes xs) ≤ 8 * length xs
+sets_most [] = omega arith
+sets_most (s ∷ xs) = omega (arith, sets_most xs, set_size s, length-append (set_bytes s) (flat_map set_bytes xs))
 
--- ---- the file
-
-pub written_parts : (o : Outline) → length (written o)
-    ≡ 4 + length (ends_bytes o.initial o.goal) + length (flat_map action_bytes (task o).actions) + length (flat_map set_bytes (task o).groups) + length (flat_map set_bytes (task o).bars)
-unfolding written
-written_parts o = simp length-append (omega arith)
-
-module _ (b : Book) where
-  pub book_size : length (written b.outline)
-      ≡ 5 + length (field_bytes b.outline.initial) + length (field_bytes b.outline.goal) + length (flat_map action_bytes (task b.outline).actions) + 8 * (b.outline.group_count + b.outline.bar_count)
-  book_size =
-      let o = b.outline in
-      omega (arith, written_parts o, ends_size o.initial o.goal, sets_size (task o).groups, sets_size (task o).bars, groups_are o b.wide b.counted, bars_are o b.wide b.counted)
-
-  pub book_most : length (written b.outline) ≤ 1813
-  book_most =
-      let o = b.outline in
-      omega (arith, book_size, field_most o.initial, field_most o.goal, actions_most (task o).actions, actions_are o b.wide b.counted, b.counted.0, b.counted.1, b.counted.2)
+-- the file of a lawful book, part by part
+pub file_most : (o : Outline) → Lawful (task o)
+    → 4 + length (ends_bytes o.initial o.goal) + length (flat_map action_bytes o.actions) + length (flat_map set_bytes o.groups) + length (flat_map set_bytes o.bars) ≤ 1813
+file_most o l = omega (arith, ends_most o.initial o.goal, actions_most o.actions, sets_most o.groups, sets_most o.bars, l.few_actions, l.few_groups, l.few_bars)

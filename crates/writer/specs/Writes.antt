@@ -1,5 +1,5 @@
 -- What writing a book leaves.
-use Rattle.std.specs.Prelude.{◌≡◌, ℕ, ◌+◌, ◌<◌, List, ◌++◌, length, take, drop, Ok, Err, Result}
+use Rattle.std.specs.Prelude.{◌≡◌, ℕ, ◌<◌, List, ◌++◌, length, take, drop, Ok, Err, Result}
 use Rattle.faults.specs.declared.Fault.{Fault}
 use Rattle.book.specs.declared.book.Book.{Book}
 use Rattle.book.specs.declared.outline.Outline.{Outline}
@@ -11,11 +11,6 @@ use Rattle.writer.specs.declared.refusal.Refusal.TheVariants.{TooShort}
 -- the number that a refused write is refused by
 abbrev pub refusal_number : Refusal → ℕ
 refusal_number TooShort = 31
-
--- the bytes w went in at a place, the rest is as it was, and next is the place after them
-pub record Put (before : List ℕ) (at : ℕ) (w : List ℕ) (next : ℕ) (after : List ℕ) : Type 0 where
-  pub stop : next ≡ at + length w
-  pub bytes : after ≡ take at before ++ (w ++ drop next before)
 
 -- the file stands in front and the bytes past it are untouched; or the file is longer, and nothing is written
 abbrev pub Writes : Outline → List ℕ → Result ℕ Refusal → List ℕ → Type 0

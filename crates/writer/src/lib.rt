@@ -2,10 +2,10 @@
 #![tactic(auto)]
 
 mod fields;
+mod file;
 mod records;
 pub mod refusal;
 pub mod sizes;
-mod tables;
 #[cfg(test)]
 mod tests;
 pub mod write;

@@ -1,38 +1,58 @@
-// The writers of records, each a list of fields.
-ghost use Rattle.std.specs.Prelude.{◌+◌, ◌≤◌, length};
-ghost use Rattle.reader.specs.Written.{counts_bytes, ends_bytes, action_bytes};
-ghost use Rattle.writer.specs.Writes.{Put};
+// The bytes of records, each a list of fields.
+ghost use Rattle.std.specs.Prelude.{◌≡◌, ℕ, List};
+ghost use Rattle.reader.specs.Written.{counts_bytes, ends_bytes, set_bytes, action_bytes};
 
-use crate::fields::{bit, put_byte, put_field};
-use book::outline::Outline;
+use crate::fields::{bit, field};
+use book::book::Book;
+use few::few::Few;
 use model::Action;
 
-pub fn put_counts(out: &mut [u8], at: usize, outline: &Outline) -> usize
-    requires { at + 4 ≤ length out.old }
-    ensures { Put out.old at (counts_bytes outline.now) result out.new }
+pub fn counts(book: &Book) -> [u8; 4]
+    ensures { result ≡ counts_bytes book.now.outline }
 {
-    let actions_at = put_byte(out, at, outline.facts);
-    let groups_at = put_byte(out, actions_at, outline.action_count);
-    let bars_at = put_byte(out, groups_at, outline.group_count);
-    put_byte(out, bars_at, outline.bar_count)
+    [
+        book.outline.facts,
+        book.actions().len() as u8,
+        book.groups().len() as u8,
+        book.bars().len() as u8,
+    ]
 }
 
-pub fn put_ends(out: &mut [u8], at: usize, initial: u64, goal: u64) -> usize
-    requires { at + length (ends_bytes initial goal) ≤ length out.old }
-    ensures { Put out.old at (ends_bytes initial goal) result out.new }
+pub fn ends(initial: u64, goal: u64) -> Few<u8, 17>
+    ensures { result ≡ ends_bytes initial goal }
 {
-    let initial_at = put_byte(out, at, bit(1, initial) + bit(2, goal));
-    let goal_at = put_field(out, initial_at, initial);
-    put_field(out, goal_at, goal)
+    let mut bytes = Few::new();
+    bytes.push(bit(1, initial) + bit(2, goal));
+    bytes.extend_from_slice(&field(initial));
+    bytes.extend_from_slice(&field(goal));
+    bytes
 }
 
-pub fn put_action(out: &mut [u8], at: usize, a: Action) -> usize
-    requires { at + length (action_bytes a) ≤ length out.old }
-    ensures { Put out.old at (action_bytes a) result out.new }
-{
-    let map = bit(1, a.needs) + bit(2, a.adds) + bit(4, a.deletes);
-    let needs_at = put_byte(out, at, map);
-    let adds_at = put_field(out, needs_at, a.needs);
-    let deletes_at = put_field(out, adds_at, a.adds);
-    put_field(out, deletes_at, a.deletes)
+// A kind of record that stands in a table. Not the reader's trait of this name: what is read and what is written have different laws.
+pub trait Row: Copy {
+    ghost format: { Self → List ℕ };
+
+    fn bytes(self) -> Few<u8, 25>
+        ensures { result ≡ format self };
+}
+
+impl Row for Action {
+    ghost format = { action_bytes };
+
+    fn bytes(self) -> Few<u8, 25> {
+        let mut bytes = Few::new();
+        bytes.push(bit(1, self.needs) + bit(2, self.adds) + bit(4, self.deletes));
+        bytes.extend_from_slice(&field(self.needs));
+        bytes.extend_from_slice(&field(self.adds));
+        bytes.extend_from_slice(&field(self.deletes));
+        bytes
+    }
+}
+
+impl Row for u64 {
+    ghost format = { set_bytes };
+
+    fn bytes(self) -> Few<u8, 25> {
+        Few::first_of(&self.to_le_bytes())
+    }
 }

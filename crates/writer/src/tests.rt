@@ -26,7 +26,7 @@ fn sample_comes_back(rt: HostRuntime) -> Result<(), Fail> {
     assert_eq!(rt; &out[..n], SAMPLE);
     assert_eq!(rt; &out[n..], [0xee; 4].as_slice());
     let again = read(&out[..n])?;
-    assert_eq!(rt; again.outline.bars, book.outline.bars);
+    assert_eq!(rt; again.bars(), book.bars());
     let mut short = [0; 219];
     assert_eq!(rt; write(&book, &mut short), Err(Refusal::TooShort));
     Ok(())

@@ -1,16 +1,11 @@
-use Rattle.std.proofs.Common.{arith, below_more}
-use Rattle.std.proofs.lemmas.Bool.Decides.{not_from_Decides}
-use Rattle.book.proofs.Fronts.{groups_are}
+use Rattle.std.proofs.Common.{rules, tests, ℕ, ◌<◌, length, slice_index, arith}
+use Rattle.sets.specs.Sets.{Meet}
+use Rattle.sets.proofs.Finds.{lowest_found}
 use Rattle.reader.proofs.conditions.shared_group.Goals as goal
 
-pub returns-then-shares : goal.returns-then-shares
-returns-then-shares c =
-    let o = c.args.outline.now in
-    ((omega (arith, groups_are o c.requires.wide c.requires.counted), c.shares.ensures.0 c.if-shares.true), c.loop-g.invariant)
-
-pub loop-g-preserved : goal.loop-g-preserved
-loop-g-preserved c = below_more _ _ c.loop-g.invariant (λ h. not_from_Decides _ c.shares.ensures c.if-shares.false h.1)
-
 pub returns : goal.returns
-returns c k h =
-    c.loop-g.invariant k (omega (arith, groups_are c.args.outline.now c.requires.wide c.requires.counted, h.0)) h
+returns c =
+    let sets = c.as_slice-groups.result.now in
+    let some = λ (g : ℕ). (h : ℕ) × (h < g) × Meet (slice_index sets h) (slice_index sets g) in
+    rw c.as_slice-groups.ensures.items at
+    (lowest_found _ _ _ c.find.result some (λ g. (g < length sets) × some g) c.find.ensures.ran (λ g t q k. search (rules, tests)) (λ g _ l s. (l, s)) (λ g h. (omega arith, h.0, h.1)))

@@ -15,4 +15,4 @@ returns c =
     let place = c.outline.new.self.pos in
     let value : Read Outline Fault → Result Outline Fault = result_map_both (λ x. x.0) (λ e. e) in
     value_of_place r place
-    ∙ ap value (c.outline.ensures ∙ ap₂ (λ (bs : List ℕ) (p : ℕ). read_outline bs p) c.new.ensures.bytes c.new.ensures.pos)
+    ∙ ap value (c.outline.ensures.1 ∙ ap₂ (λ (bs : List ℕ) (p : ℕ). read_outline bs p) c.new.ensures.bytes c.new.ensures.pos)

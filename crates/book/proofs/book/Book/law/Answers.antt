@@ -1,6 +1,5 @@
 use Rattle.model.proofs.Laws.{lawful_from}
-use Rattle.book.proofs.Paddings.{padded_from}
 use Rattle.book.proofs.book.Book.law.Goals as goal
 
 pub returns : goal.returns
-returns c = record { lawful = lawful_from _ c.args.self.now.lawful; padded = padded_from _ c.args.self.now.padded }
+returns c = record { lawful = lawful_from _ c.args.self.now.lawful }
