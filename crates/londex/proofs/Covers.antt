@@ -1,11 +1,10 @@
 -- What bounds cover.
-use Rattle.std.proofs.Common.{◌≡◌, ℕ, suc, ◌⊎◌, Some, None, Option, subst, inl, inr, ⊎_elim, arith}
+use Rattle.std.proofs.Common.{ℕ, suc, ◌⊎◌, Some, None, Option, sym, subst, inl, inr, ⊎_elim, arith}
 use Rattle.std.proofs.lemmas.Bool.{cases_lt}
-use Rattle.sets.specs.Sets.{In, Part}
-use Rattle.model.specs.Gaps.{UpTo, Closer}
-use Rattle.londex.specs.Splits.{Splits}
-use Rattle.londex.specs.Bounds.{Covers, wider, lowered, raised}
-use Rattle.londex.proofs.Rests.{Done, done_all, done_here, done_still, done_before}
+use Rattle.sets.specs.Sets.{In, Part, Splits}
+use Rattle.model.specs.Gaps.{Closer}
+use Rattle.londex.specs.Bounds.{Covers, Widest, wider, lowered}
+use Rattle.londex.proofs.Rests.{Done, done_here, done_still, done_before}
 
 wider_left : (k m : Option ℕ) (d : ℕ) → Closer k d → Closer (wider k m) d
 wider_left None m d h = tt
@@ -35,37 +34,27 @@ pub covers_lowered : {P : ℕ → Type 0} (k : Option ℕ) → Covers P k → Co
 covers_lowered (Some k) x = record { only = λ d h. x.only (suc d) (omega arith); all = λ d p. omega (arith, x.all (suc d) p) }
 covers_lowered None x = record { only = λ d h. x.only (suc d) tt; all = λ d p. tt }
 
-pub covers_raised : (r : Option ℕ) → Covers (UpTo r 0) (raised r)
-covers_raised (Some r) = record { only = λ d h. omega arith; all = λ d h. omega arith }
-covers_raised None = record { only = λ d h. tt; all = λ d h. tt }
-
 pub covers_closer : (k : Option ℕ) → Covers (Closer k) k
 covers_closer k = record { only = λ d h. h; all = λ d h. h }
 
--- ---- the members of a set, one after the other
+-- ---- the widest of the bounds of a set's members, one after the other
 
-module _ (P : ℕ → ℕ → Type 0) (set : ℕ) where
-  -- of a member that is done
-  abbrev pub SomeDone : ℕ → ℕ → Type 0
-  SomeDone left d = (x : ℕ) × Done set left x × P x d
-
-  pub some_none : Covers (SomeDone set) (Some 0)
-  some_none = record { only = λ d h. absurd (omega arith); all = λ d p. absurd (p.1.1 p.1.0) }
-
-  pub some_more : (left i rest : ℕ) (k m : Option ℕ) → Part left set → Splits left i rest → Covers (SomeDone left) k → Covers (P i) m → Covers (SomeDone rest) (wider k m)
-  some_more left i rest k m part s x y = record {
+module _ (R : ℕ → Option ℕ → Type 0) (set : ℕ) where
+  pub widest_more : (left i rest : ℕ) (k m : Option ℕ) → Part left set → Splits left i rest → Widest R (Done set left) k → R i m → Widest R (Done set rest) (wider k m)
+  widest_more left i rest k m part s x y = record {
     only = λ d h. ⊎_elim
         (λ l. let p = x.only d l in (p.0, done_still set left i rest part s p.0 p.1, p.2))
-        (λ l. (i, done_here set left i rest part s, y.only d l))
+        (λ l. (i, done_here set left i rest part s, (m, y, l)))
         (wider_either k m d h);
-    all = λ d p. ⊎_elim
-        (λ e. wider_right k m d (y.all d (subst (λ (w : ℕ). P w d) e p.2)))
-        (λ done. wider_left k m d (x.all d (p.0, done, p.2)))
-        (done_before set left i rest part s p.0 p.1);
+    all = λ j p. ⊎_elim
+        (λ e. (m, subst (λ (n : ℕ). R n m) (sym e) y, λ d l. wider_right k m d l))
+        (λ done. let q = x.all j done in (q.0, q.1, λ d l. wider_left k m d (q.2 d l)))
+        (done_before set left i rest part s j p);
   }
 
-  pub some_all : (left : ℕ) (k : Option ℕ) → left ≡ 0 → Covers (SomeDone left) k → Covers (λ d. (x : ℕ) × In x set × P x d) k
-  some_all left k none x = record {
-    only = λ d h. let p = x.only d h in (p.0, p.1.0, p.2);
-    all = λ d p. x.all d (p.0, done_all set left p.0 none p.1, p.2);
+  -- where the bound of a member forbids what P says
+  pub widest_covers : (P : ℕ → ℕ → Type 0) (k : Option ℕ) → ((i : ℕ) (r : Option ℕ) → In i set → R i r → Covers (P i) r) → Widest R (λ i. In i set) k → Covers (λ d. (i : ℕ) × In i set × P i d) k
+  widest_covers P k each x = record {
+    only = λ d h. let p = x.only d h in (p.0, p.1, (each p.0 p.2.0 p.1 p.2.1).only d p.2.2);
+    all = λ d p. let q = x.all p.0 p.1 in q.2 d ((each p.0 q.0 p.1 q.1).all d p.2);
   }

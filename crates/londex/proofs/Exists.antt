@@ -13,7 +13,7 @@ use Rattle.model.specs.Distances.{Facts}
 use Rattle.model.proofs.Spaces.{by_down}
 use Rattle.model.specs.Gaps.{UpTo, Far, Rule, By, A1, A2, B1, B2, B3, B4, Gap}
 use Rattle.londex.specs.Bounds.{Under, Covers, Spared}
-use Rattle.londex.specs.Tables.{Table, at, Charted, Spaced}
+use Rattle.londex.specs.Tables.{Table, at, Grouped, Charted, Spaced}
 use Rattle.londex.specs.Ways.{Together, Step, Led, Least, Written}
 use Rattle.londex.proofs.Arcs.{SomeBelow, union_none, union_in, BothIn, Swaps, together_all, step_all}
 use Rattle.londex.proofs.Paths.{group_small, fact_small, facts_are}
@@ -158,6 +158,15 @@ module _ (b : Task) (ok : Lawful b) where
       ⊎_elim (λ p. inl (p.0, p.1, p.2.0, p.2.1)) (λ none. inr (λ p. none (p.0, p.1, (p.2, p.3))))
       (tell_below (λ (g : ℕ). In v (group b g) × In w (group b g)) (length b.groups)
       (λ g. ⊎_elim (λ x. ⊎_elim (λ y. inl (x, y)) (λ out. inr (λ p. out p.1)) (in_or_not w (group b g))) (λ out. inr (λ p. out p.0)) (in_or_not v (group b g))))
+
+  in_from : (i s : ℕ) → ∥ In i s ∥₁ → In i s
+  in_from i s t = ⊎_elim (λ h. h) (λ out. absurd (∥∥₁_elim t nothing_prop out)) (in_or_not i s)
+
+  pub grouped_from : (f : ℕ → ℕ) → ∥ Grouped b f ∥₁ → Grouped b f
+  grouped_from f cut v small = record {
+    only = λ j h. told (tell_together v j) (∥∥₁_map cut (λ g. (g v small).only j h));
+    all = λ j p. in_from j (f v) (∥∥₁_map cut (λ g. (g v small).all j p));
+  }
 
   -- what `Far` says of v and w
   abbrev FarAt : ℕ → ℕ → ℕ → ℕ → ℕ → ℕ → Type 0

@@ -1,8 +1,6 @@
 pub mod Reaches
-pub mod Digits
 pub mod Rests
 pub mod Arcs
-pub mod Cells
 pub mod Paths
 pub mod Covers
 pub mod Rules

@@ -1,32 +1,18 @@
 -- The steps of a search along a graph, one more arc per turn.
-use Rattle.std.proofs.Common.{◌≡◌, ℕ, zero, suc, ◌+◌, ◌-◌, ◌*◌, ◌%◌, ◌^◌, ◌<◌, ◌≤◌, ◌≢◌, ◌⊎◌, List, length, set, Some, None, Option, sym, refl, ◌∙◌, subst, inl, inr, ⊎_elim, add-one, arith, get_or-set_other, get_or-set_same}
+use Rattle.std.proofs.Common.{◌≡◌, ℕ, zero, suc, ◌+◌, ◌-◌, ◌*◌, ◌%◌, ◌^◌, ◌<◌, ◌≤◌, ◌⊎◌, Some, None, Option, sym, refl, ◌∙◌, subst, inl, inr, ⊎_elim, add-one, arith}
 use lib.Bits.{bit_and, bit_or, or_lt, and_le_l}
 use lib.Count.{ones}
 use lib.Pow.{pow-lt}
-use Rattle.std.proofs.lemmas.Bool.{cases_eq}
 use Rattle.sets.specs.Sets.{In, Part, Marks}
 use Rattle.sets.proofs.Members.{out_or_in, in_or, or_left, or_right, in_and, and_in, nothing_in, some_member, in_below, single_is, single_has, shift_is}
 use Rattle.sets.proofs.Counts.{ones_more, ones_some}
-use Rattle.londex.specs.Splits.{Splits}
-use Rattle.londex.specs.Ways.{Led, Steps, Least, Written, entry}
-use Rattle.londex.proofs.Digits.{in_not, not_in}
-use Rattle.londex.proofs.Rests.{Done, done_here, done_still, done_before}
+use Rattle.londex.specs.Ways.{Led, Steps, Least, Written}
+use Rattle.sets.proofs.Digits.{in_not, not_in}
 
 pub in_or_not : (i s : ℕ) → In i s ⊎ (In i s → ⊥)
 in_or_not i s = ⊎_elim (λ z. inr (λ h. omega arith)) inl (out_or_in i s)
 
 -- ---- a row written at the members of a set
-
-pub written_more : (all left i rest d : ℕ) (before : ℕ → Option ℕ) (row : List (Option ℕ)) → length row ≡ 64 → Part left all → Splits left i rest → Written (Done all left) d before (entry row) → Written (Done all rest) d before (entry (set row i (Some d)))
-written_more all left i rest d before row wide part s w = record {
-  here = λ x k. ⊎_elim
-      (λ e. subst (λ (n : ℕ). entry (set row i (Some d)) n ≡ Some d) (sym e) (let inside : i < length row = omega (arith, s.below) in get_or-set_same row i (Some d) None inside))
-      (λ ne. get_or-set_other row i x (Some d) None ne ∙ ⊎_elim (λ e. absurd (ne e)) (w.here x) (done_before all left i rest part s x k))
-      (cases_eq x i);
-  elsewhere = λ x k.
-      let ne : x ≢ i = λ e. k (subst (Done all rest) (sym e) (done_here all left i rest part s)) in
-      get_or-set_other row i x (Some d) None ne ∙ w.elsewhere x (λ old. k (done_still all left i rest part s x old));
-}
 
 module _ (f : ℕ → ℕ) where
   -- ---- ways, from their ends

@@ -2,9 +2,8 @@
 use Rattle.std.proofs.Common.{◌≡◌, ℕ, ◌⊎◌, refl, subst, inl, inr, ⊎_elim}
 use lib.Bits.{bit_or}
 use Rattle.std.proofs.lemmas.Bool.{cases_eq}
-use Rattle.sets.specs.Sets.{In, Part, Marks}
+use Rattle.sets.specs.Sets.{In, Part, Marks, Splits}
 use Rattle.sets.proofs.Members.{in_or, or_left, or_right, nothing_in}
-use Rattle.londex.specs.Splits.{Splits}
 
 -- x is a member of the set, and no longer one of those left
 abbrev pub Done : ℕ → ℕ → ℕ → Type 0
@@ -29,9 +28,6 @@ module _ (set left i rest : ℕ) (part : Part left set) (s : Splits left i rest)
 -- what the members done lead to
 abbrev pub LedBy : (ℕ → ℕ) → ℕ → ℕ → ℕ → Type 0
 LedBy f set left y = (x : ℕ) × Done set left x × In y (f x)
-
-pub led_none : (f : ℕ → ℕ) (set : ℕ) → Marks (LedBy f set set) 0
-led_none f set = record { only = λ y h. absurd (nothing_in y h); all = λ y p. absurd (p.1.1 p.1.0) }
 
 pub led_more : (f : ℕ → ℕ) (set left i rest all : ℕ) → Part left set → Splits left i rest → Marks (LedBy f set left) all → Marks (LedBy f set rest) (bit_or all (f i))
 led_more f set left i rest all part s m = record {

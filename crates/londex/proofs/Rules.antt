@@ -1,5 +1,5 @@
 -- The six rules, sorted by the fact of the second action, and the gap that they give.
-use Rattle.std.proofs.Common.{◌≡◌, ℕ, zero, suc, ◌^◌, ◌<◌, ◌⊎◌, Some, None, Option, sym, refl, ap, subst, inl, inr, ⊎_elim, arith, pow_mono}
+use Rattle.std.proofs.Common.{◌≡◌, ℕ, zero, suc, ◌^◌, ◌<◌, ◌⊎◌, ◌≢◌, List, length, set, Some, None, Option, sym, refl, ap, subst, inl, inr, ⊎_elim, arith, pow_mono, get_or-set_other, get_or-set_same}
 use lib.Bits.{bit_and, bit_or}
 use Rattle.std.proofs.lemmas.Bool.{cases_eq, cases_order}
 use Rattle.model.specs.declared.Action.{Action}
@@ -8,7 +8,7 @@ use Rattle.sets.proofs.Members.{in_or, or_left, or_right, in_and, and_in, in_bel
 use Rattle.model.specs.Tasks.{Task, Lawful, Has, action}
 use Rattle.model.specs.Distances.{Distance, Facts}
 use Rattle.model.specs.Gaps.{UpTo, Rule, A1, A2, B1, B2, B3, B4, By, Gap, Closer}
-use Rattle.londex.specs.Ways.{Together, Led}
+use Rattle.londex.specs.Ways.{Together, Led, entry}
 use Rattle.londex.specs.Tables.{Table, at, Grouped, Charted}
 use Rattle.londex.specs.Bounds.{Covers, Spared, Waits, KeptOff}
 use Rattle.londex.proofs.Covers.{covers_like}
@@ -168,3 +168,11 @@ module _ (b : Task) (a c : ℕ) where
 
   pub gap_other : (k : Option ℕ) → (a ≡ c → ⊥) → Covers (Ruled b a c) k → Gap b a c k
   gap_other k differ x = gap_is k (λ e _. differ e) x
+
+-- the bounds after a as gaps, once that of a itself is spared
+pub gap_spared : (b : Task) (a c : ℕ) (row : List (Option ℕ)) (r : Option ℕ) → a < length row → Spared (entry row a) r → Covers (Ruled b a c) (entry row c) → Gap b a c (entry (set row a r) c)
+gap_spared b a c row r inside s x =
+    ⊎_elim
+    (λ e. subst (λ (n : ℕ). Gap b a n (entry (set row a r) n)) e (subst (Gap b a a) (sym (get_or-set_same row a r None inside)) (gap_same b a a (entry row a) r refl s (subst (λ (n : ℕ). Covers (Ruled b a n) (entry row n)) (sym e) x))))
+    (λ ne. let off : c ≢ a = λ e. ne (sym e) in subst (Gap b a c) (sym (get_or-set_other row a c r None off)) (gap_other b a c (entry row c) ne x))
+    (cases_eq a c)

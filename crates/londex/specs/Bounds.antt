@@ -10,6 +10,11 @@ pub record Covers (P : ℕ → Type 0) (k : Option ℕ) : Type 0 where
   pub only : (d : ℕ) → Closer k d → P d
   pub all : (d : ℕ) → P d → Closer k d
 
+-- k forbids what some bound of a member forbids, where Bounds says which bounds a member may have
+pub record Widest (Bounds : ℕ → Option ℕ → Type 0) (Member : ℕ → Type 0) (k : Option ℕ) : Type 0 where
+  pub only : (d : ℕ) → Closer k d → (i : ℕ) × Member i × ((r : Option ℕ) × Bounds i r × Closer r d)
+  pub all : (i : ℕ) → Member i → (r : Option ℕ) × Bounds i r × ((d : ℕ) → Closer r d → Closer k d)
+
 -- the greater of two bounds
 abbrev pub wider : Option ℕ → Option ℕ → Option ℕ
 wider None m = None
@@ -35,6 +40,10 @@ Spared None r = r ≡ None
 abbrev pub Under : ℕ → Option ℕ → Type 0
 Under n (Some r) = r < n
 Under n None = Unit {0}
+
+-- where f gives the facts of a group, a distance between two of them is below 64
+abbrev pub Shorter : (ℕ → ℕ) → Table → Type 0
+Shorter f t = (w v : ℕ) → w < 64 → In v (f w) → Under 64 (at t v w)
 
 -- d is at most what the table has from a member of the set to w
 abbrev pub Farther : Table → ℕ → ℕ → ℕ → Type 0

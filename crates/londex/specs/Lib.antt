@@ -1,5 +1,4 @@
 pub mod Answers
 pub mod Bounds
-pub mod Splits
 pub mod Tables
 pub mod Ways

@@ -22,6 +22,10 @@ Grouped b f = (v : ℕ) → v < 64 → Marks (Together b v) (f v)
 abbrev pub Charted : Task → Table → Type 0
 Charted b t = (v w : ℕ) → Together b v w → Facts b v w (at t v w)
 
+-- the row has the gap from the action a to every action
+abbrev pub GapsFrom : Task → ℕ → (ℕ → Option ℕ) → Type 0
+GapsFrom b a row = (c : ℕ) → Has b a → Has b c → Gap b a c (row c)
+
 -- the table has the gap from every action to every action
 abbrev pub Spaced : Task → Table → Type 0
 Spaced b t = (a c : ℕ) → Has b a → Has b c → Gap b a c (at t a c)

@@ -6,24 +6,25 @@ ghost use Rattle.londex.specs.Tables.{Charted};
 ghost use Rattle.londex.specs.Ways.{graph, entry, Least, Written};
 
 use crate::graph::{arc_table, group_of, led_to};
-use crate::members::split_first;
 use crate::refusal::Refusal;
+use crate::table::Table;
 use book::book::Book;
 use sets::contains;
+use sets::iter::members_of;
+use std::array;
 
 // Writes d at each member of the set.
 fn write(row: &mut [Option<u8>; 64], set: u64, d: u8)
     ensures wide { length row.new ≡ 64 }
     ensures written { Written (λ w. In w set) d (entry row.old) (entry row.new) }
 {
-    let mut left = set;
-    while let Some((w, rest)) = split_first(left) {
+    for w in members_of(set) {
         row[w as usize] = Some(d);
-        left = rest;
     }
 }
 
-// The least number of arcs from v to each fact: one more arc per turn, until nothing is added.
+// The least number of arcs from v to each fact: one more arc per turn, until nothing is added. That v is below 64 stands bare:
+// facts come as places of an array or a set, and go back to be those; a type for them would be made and taken apart at each call.
 fn distances_from(arcs: &[u64; 64], v: u32) -> [Option<u8>; 64]
     requires { v < 64 }
     ensures { (w : ℕ) → w < 64 → Least (graph arcs.now) v w (entry result w) }
@@ -31,16 +32,16 @@ fn distances_from(arcs: &[u64; 64], v: u32) -> [Option<u8>; 64]
     let mut row = [None; 64];
     let mut reach = 1 << v;
     let mut fresh = reach;
-    let mut d = 0;
-    'grow: loop {
+    // The number is the distance that is written; nothing is indexed by it.
+    for d in 0..64 {
         write(&mut row, fresh, d);
         fresh = led_to(arcs, fresh) & !reach;
         if fresh == 0 {
-            return row;
+            break;
         }
         reach |= fresh;
-        d += 1;
     }
+    row
 }
 
 // Refuses two facts that have no distance.
@@ -68,14 +69,17 @@ pub fn distance(book: &Book, v: u32, w: u32) -> Result<Option<u8>, Refusal>
 }
 
 // The distance of every two facts of one group.
-pub(crate) fn distance_table(book: &Book) -> [[Option<u8>; 64]; 64]
-    ensures { Charted (task book.now.outline) result }
+pub(crate) fn distance_table(book: &Book) -> Table
+    ensures { Charted (task book.now.outline) result.rows }
 {
     book.law();
     let arcs = arc_table(book);
-    let mut table = [[None; 64]; 64];
-    for v in 0..64 {
-        table[v as usize] = distances_from(&arcs, v);
+    Table {
+        rows: array::from_fn(
+            |v|
+                requires { v < 64 }
+                ensures { (w : ℕ) → w < 64 → Least (graph arcs) v w (entry result w) }
+            { distances_from(&arcs, v as u32) },
+        ),
     }
-    table
 }

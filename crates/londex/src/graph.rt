@@ -4,19 +4,19 @@ ghost use Rattle.book.specs.Views.{task};
 ghost use Rattle.londex.specs.Tables.{Grouped};
 ghost use Rattle.londex.specs.Ways.{Together, Step, Led, graph};
 
-use crate::members::split_first;
 use book::book::Book;
 use sets::contains;
+use sets::iter::members_of;
+use std::array;
 
 // The facts that share a group with v; none for a fact without a group.
 pub fn group_of(book: &Book, v: u32) -> u64
     ensures { Marks (Together (task book.now.outline) v) result }
 {
     let mut found = 0;
-    for g in 0..book.outline.group_count as usize {
-        let members = book.outline.groups[g];
-        if contains(members, v) {
-            found |= members;
+    for members in book.groups() {
+        if contains(*members, v) {
+            found |= *members;
         }
     }
     found
@@ -26,11 +26,7 @@ pub fn group_of(book: &Book, v: u32) -> u64
 pub(crate) fn group_table(book: &Book) -> [u64; 64]
     ensures { Grouped (task book.now.outline) (graph result) }
 {
-    let mut table = [0; 64];
-    for v in 0..64 {
-        table[v as usize] = group_of(book, v);
-    }
-    table
+    array::from_fn(|v| group_of(book, v as u32))
 }
 
 // The facts to which an arc leads from v.
@@ -38,8 +34,7 @@ fn arcs_from(book: &Book, v: u32) -> u64
     ensures { Marks (Step (task book.now.outline) v) result }
 {
     let mut added = 0;
-    for i in 0..book.outline.action_count as usize {
-        let a = book.outline.actions[i];
+    for a in book.actions() {
         if contains(a.deletes, v) {
             added |= a.adds;
         }
@@ -51,11 +46,7 @@ fn arcs_from(book: &Book, v: u32) -> u64
 pub(crate) fn arc_table(book: &Book) -> [u64; 64]
     ensures { (v : ℕ) → v < 64 → Marks (Step (task book.now.outline) v) (graph result v) }
 {
-    let mut table = [0; 64];
-    for v in 0..64 {
-        table[v as usize] = arcs_from(book, v);
-    }
-    table
+    array::from_fn(|v| arcs_from(book, v as u32))
 }
 
 // All that the members of the set lead to.
@@ -63,10 +54,8 @@ pub(crate) fn led_to(table: &[u64; 64], set: u64) -> u64
     ensures { Marks (Led (graph table.now) set) result }
 {
     let mut all = 0;
-    let mut left = set;
-    while let Some((x, rest)) = split_first(left) {
+    for x in members_of(set) {
         all |= table[x as usize];
-        left = rest;
     }
     all
 }

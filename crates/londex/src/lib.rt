@@ -2,9 +2,10 @@
 #![tactic(auto)]
 
 mod bounds;
+mod chart;
 pub mod distances;
 pub mod gaps;
 pub mod graph;
 pub mod londex;
-pub mod members;
 pub mod refusal;
+pub mod table;

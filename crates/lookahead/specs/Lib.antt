@@ -4,3 +4,4 @@ pub mod Tables
 pub mod Views
 pub mod Laws
 pub mod Says
+pub mod Outlooks

@@ -9,9 +9,11 @@ ghost use Rattle.std.proofs.Common.{rules};
 use crate::clashes::Clashes;
 use book::book::Book;
 use card::Card;
+use model::Standing;
 use sieve::sieve::Sieve;
 
-// Drops a start with an action that is closer to a coming booking than their gap.
+// Drops a start with an action that is closer to a coming booking than their gap. Goal is its twin, of another question: one
+// type for both takes a trait of rules, tables and questions, which is longer than the two.
 #[derive(Clone, Copy)]
 pub struct Gap {
     begun: Option<Clashes>,
@@ -45,16 +47,15 @@ impl Sieve for Gap {
         self.begun = Some(Clashes::new(book, card));
     }
 
-    fn drops_standing(&self, _state: u64, _t: u8) -> bool {
+    fn drops_standing(&self, _at: Standing) -> bool {
         false
     }
 
-    fn drops_start(&self, state: u64, t: u8, round: u64) -> bool {
-        match &self.begun {
-            Some(clashes) => clashes.are_met(state, t, round),
-            None => false,
-        }
+    fn drops_start(&self, at: Standing, round: u64) -> bool {
+        self.begun
+            .as_ref()
+            .is_some_and(|clashes| clashes.are_met(at, round))
     }
 
-    fn told(&mut self, _state: u64, _t: u8) {}
+    fn told(&mut self, _at: Standing) {}
 }

@@ -9,9 +9,10 @@ ghost use Rattle.std.proofs.Common.{rules};
 use crate::deadlines::Deadlines;
 use book::book::Book;
 use card::Card;
+use model::Standing;
 use sieve::sieve::Sieve;
 
-// Drops a standing with a fact that is too far from one of its group that is due.
+// Drops a standing with a fact that is too far from one of its group that is due. Gap is its twin; it says why they are two.
 #[derive(Clone, Copy)]
 pub struct Goal {
     begun: Option<Deadlines>,
@@ -45,16 +46,15 @@ impl Sieve for Goal {
         self.begun = Some(Deadlines::new(book, card));
     }
 
-    fn drops_standing(&self, state: u64, t: u8) -> bool {
-        match &self.begun {
-            Some(deadlines) => deadlines.are_missed(state, t),
-            None => false,
-        }
+    fn drops_standing(&self, at: Standing) -> bool {
+        self.begun
+            .as_ref()
+            .is_some_and(|deadlines| deadlines.are_missed(at))
     }
 
-    fn drops_start(&self, _state: u64, _t: u8, _round: u64) -> bool {
+    fn drops_start(&self, _at: Standing, _round: u64) -> bool {
         false
     }
 
-    fn told(&mut self, _state: u64, _t: u8) {}
+    fn told(&mut self, _at: Standing) {}
 }

@@ -6,6 +6,5 @@ mod clashes;
 mod deadlines;
 pub mod gap;
 pub mod goal;
-mod late;
-mod near;
+mod outlook;
 mod standing;

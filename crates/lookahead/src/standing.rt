@@ -9,10 +9,5 @@ use sets::share_one;
 pub(crate) fn is_standing(book: &Book, state: u64) -> bool
     ensures { Decides result (OneOfEach (task book.now.outline) state) }
 {
-    for g in 0..book.outline.group_count as usize {
-        if !share_one(state, book.outline.groups[g]) {
-            return false;
-        }
-    }
-    true
+    book.groups().iter().all(|group| share_one(state, *group))
 }

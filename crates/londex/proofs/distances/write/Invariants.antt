@@ -5,7 +5,4 @@ use Rattle.londex.proofs.Rests.{Done}
 use Rattle.londex.proofs.distances.write.Given as goal
 
 abbrev pub invariant-loop-w : goal.invariant-loop-w
-invariant-loop-w l = (length l.row ≡ 64) × Part l.left l.set × Written (Done l.set l.left) l.d (entry l.initial.row) (entry l.row)
-
-abbrev pub decreases-loop-w : goal.decreases-loop-w
-decreases-loop-w l = l.left
+invariant-loop-w l = (length l.row ≡ 64) × Part l.w-iterator.left l.set × Written (Done l.set l.w-iterator.left) l.d (entry l.initial.row) (entry l.row)

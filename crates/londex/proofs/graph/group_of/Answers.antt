@@ -1,33 +1,24 @@
-use Rattle.std.proofs.Common.{◌≡◌, ℕ, ◌+◌, length, get_or, sym, subst, arith, rules}
+use Rattle.std.proofs.Common.{◌≡◌, ℕ, ◌+◌, List, slice_index, sym, ap, subst, rules}
 use Rattle.sets.specs.Sets.{In, Marks}
+use Rattle.model.specs.Tasks.{group}
 use Rattle.book.specs.Views.{task}
-use Rattle.londex.proofs.Arcs.{SomeBelow, BothIn, union_none, union_in, union_out, together_all}
-use Rattle.book.proofs.Fronts.{group_is, groups_are}
+use Rattle.londex.proofs.Arcs.{SomeBelow, BothIn, union_in, union_out}
 use Rattle.londex.proofs.graph.group_of.Goals as goal
 use Rattle.londex.proofs.graph.group_of.Goals.{then-contains, else-contains}
 
-pub loop-g-init : goal.loop-g-init
-loop-g-init c = union_none (BothIn (task c.args.book.now.outline) c.args.v)
-
-pub loop-g-preserved : goal.loop-g-preserved
-loop-g-preserved c =
-    let o = c.args.book.now.outline in
+pub loop-members-preserved : goal.loop-members-preserved
+loop-members-preserved c =
+    let b = task c.args.book.now.outline in
     let v = c.args.v in
-    let g = c.loop-g.g in
-    let P : ℕ → ℕ → Type 0 = BothIn (task o) v in
-    let is = group_is o g c.loop-g-test.true in
+    let g = c.loop-members.members-index in
+    let s = slice_index c.groups-members-items.result.now g in
+    let is : s ≡ group b g = ap (λ (xs : List ℕ). slice_index xs g) c.groups-members-items.ensures.groups in
     elim c.if-contains.branch [
       | then-contains w ↦
-          let here : In v (get_or o.groups g 0) = search rules in
-          let both : Marks (P g) (get_or o.groups g 0) = subst (λ (n : ℕ). Marks (P g) n) is (record { only = λ j h. (subst (λ (n : ℕ). In v n) (sym is) here, h); all = λ j p. p.1 }) in
-          subst (λ (n : ℕ). Marks (SomeBelow P (g + 1)) n) (sym w.found-is) (union_in P g c.loop-g.found _ both c.loop-g.invariant)
+          let here : In v s = search rules in
+          let both : Marks (BothIn b v g) s = subst (λ (n : ℕ). Marks (λ j. In v n × In j n) s) is (record { only = λ j h. (here, h); all = λ j p. p.1 }) in
+          subst (λ (n : ℕ). Marks (SomeBelow (BothIn b v) (g + 1)) n) (sym w.found-is) (union_in (BothIn b v) g c.loop-members.found s both c.loop-members.invariant)
       | else-contains w ↦
-          let out : In v (get_or o.groups g 0) → ⊥ = search rules in
-          subst (λ (n : ℕ). Marks (SomeBelow P (g + 1)) n) (sym w.found-is) (union_out P g c.loop-g.found (λ j p. out (subst (λ (n : ℕ). In v n) is p.0)) c.loop-g.invariant)
+          let out : In v s → ⊥ = search rules in
+          subst (λ (n : ℕ). Marks (SomeBelow (BothIn b v) (g + 1)) n) (sym w.found-is) (union_out (BothIn b v) g c.loop-members.found (λ j p. out (subst (In v) (sym is) p.0)) c.loop-members.invariant)
     ]
-
-pub returns : goal.returns
-returns c =
-    let o = c.args.book.now.outline in
-    let end : c.loop-g.g ≡ length (task o).groups = omega (arith, groups_are o c.args.book.now.wide c.args.book.now.counted) in
-    together_all (task o) c.args.v c.loop-g.g c.loop-g.found end c.loop-g.invariant

@@ -4,7 +4,4 @@ use Rattle.londex.proofs.Rests.{LedBy}
 use Rattle.londex.proofs.graph.led_to.Given as goal
 
 abbrev pub invariant-loop-x : goal.invariant-loop-x
-invariant-loop-x l = Part l.left l.set × Marks (LedBy (graph l.table) l.set l.left) l.all
-
-abbrev pub decreases-loop-x : goal.decreases-loop-x
-decreases-loop-x l = l.left
+invariant-loop-x l = Part l.x-iterator.left l.set × Marks (LedBy (graph l.table) l.set l.x-iterator.left) l.all

@@ -8,6 +8,6 @@ returns c =
     let b = task l.book.outline in
     record {
       lawful = c.law.ensures.lawful;
-      charted = charted_from b c.law.ensures.lawful l.distances l.charted;
-      spaced = spaced_from b c.law.ensures.lawful l.gaps l.spaced;
+      charted = charted_from b c.law.ensures.lawful l.distances.rows l.charted;
+      spaced = spaced_from b c.law.ensures.lawful l.gaps.rows l.spaced;
     }
