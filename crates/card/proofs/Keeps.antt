@@ -1,5 +1,5 @@
 -- What a table of bookings keeps as one is added or taken out.
-use Rattle.std.proofs.Common.{◌≡◌, ℕ, ◌+◌, ◌<◌, ◌≤◌, ◌≢◌, ◌⊎◌, List, length, get_or, set, sym, refl, ◌∙◌, subst, inl, inr, ⊎_elim, arith}
+use Rattle.std.proofs.Common.{◌≡◌, ℕ, ◌+◌, ◌<◌, ◌≤◌, ◌⊎◌, List, length, get_or, set, sym, refl, ◌∙◌, subst, inl, inr, ⊎_elim, arith}
 use Rattle.std.specs.List.{remove}
 use Rattle.std.proofs.lemmas.Bool.{cases_lt, cases_eq}
 use Rattle.std.proofs.lemmas.List.{get_or-set_same, get_or-set_other}
@@ -14,9 +14,6 @@ use Rattle.card.proofs.Shift.{Shifted}
 
 abbrev EmptyFrom : ℕ → List Booking → Type 0
 EmptyFrom n xs = (k : ℕ) → n ≤ k → Empty (get_or xs k (slot 0 0))
-
-pub empty_push : (xs : List Booking) (n : ℕ) (y : Booking) → EmptyFrom n xs → EmptyFrom (n + 1) (set xs n y)
-empty_push xs n y h k le = let ne : k ≢ n = omega arith in subst Empty (sym (get_or-set_other xs n k y (slot 0 0) ne)) (h k (omega arith))
 
 pub empty_removed : (xs ys : List Booking) (i j n : ℕ) → Shifted xs i ys j → j ≤ n → n < length xs → EmptyFrom (n + 1) xs → EmptyFrom n (set ys n (slot 0 0))
 empty_removed xs ys i j n old up lt h k le =

@@ -12,23 +12,6 @@ module _ {X : Type 0} (xs : List X) (i : ℕ) where
     pub done : (k : ℕ) (d : X) → k < j → get_or ys k d ≡ get_or (remove xs i) k d
     pub left : (k : ℕ) (d : X) → j ≤ k → get_or ys k d ≡ get_or xs k d
 
-  pub shifted_none : i < length xs → Shifted xs i
-  shifted_none h = record { long = refl; done = λ k d l. sym (get_or-remove_below xs i d k l h); left = λ k d l. refl }
-
-  pub shifted_more : (ys : List X) (j : ℕ) (x : X) → i ≤ j → j + 1 < length xs → Shifted ys j → x ≡ get_or ys (j + 1) x → Shifted (set ys j x) (j + 1)
-  shifted_more ys j x le lt old read = record {
-    long = length-set ys j x ∙ old.long;
-    done = λ k d l. done k d l (cases_eq k j);
-    left = λ k d l. let ne : k ≢ j = omega arith in get_or-set_other ys j k x d ne ∙ old.left k d (omega arith);
-  }
-    where
-      here : (d : X) → x ≡ get_or (remove xs i) j d
-      here d = get_or_read ys (j + 1) x (omega (arith, old.long)) read d ∙ old.left (j + 1) d (omega arith) ∙ sym (get_or-remove_above xs i d j le (omega arith))
-
-      done : (k : ℕ) (d : X) → k < j + 1 → (k ≡ j) ⊎ (k ≡ j → ⊥) → get_or (set ys j x) k d ≡ get_or (remove xs i) k d
-      done k d l (inl e) = rw e (get_or-set_same ys j x d (omega (arith, old.long)) ∙ here d)
-      done k d l (inr ne) = get_or-set_other ys j k x d ne ∙ old.done k d (omega arith)
-
   pub shifted_all : (ys : List X) (j n m : ℕ) → n ≤ j → i < m → n + 1 ≡ m → m ≤ length xs → Shifted ys j → take n ys ≡ remove (take m xs) i
   shifted_all ys j n m up lt e le old = same_lists _ _ (omega (arith, length-take-le n ys (omega (arith, old.long)), long, length-take-le m xs le)) each
     where

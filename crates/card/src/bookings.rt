@@ -1,5 +1,5 @@
 // The table of a card's bookings, in the order of booking.
-ghost use Rattle.std.specs.Prelude.{◌≡◌, ◌+◌, ◌<◌, ◌≤◌, [], ◌∷◌, ◌++◌, Decides, MatchBool, slice_set};
+ghost use Rattle.std.specs.Prelude.{◌≡◌, ◌+◌, ◌<◌, ◌≤◌, [], ◌∷◌, ◌++◌, length, Decides, MatchBool, slice_set};
 ghost use Rattle.std.specs.List.{remove};
 ghost use Rattle.model.specs.Ledgers.{slot};
 ghost use Rattle.model.specs.Bookings.{BookedFor, AllOf};
@@ -14,7 +14,8 @@ const EMPTY: Booking = Booking {
     round: 0,
 };
 
-// The first `len` slots are in use, the others are empty.
+// The first `len` slots are in use, the others are empty. A plain struct in place, as the rules ask: it takes no memory, and
+// the card that holds it has the invariant.
 #[derive(Clone, Copy)]
 pub struct Bookings {
     pub slots: [Booking; ROOM],
@@ -39,6 +40,7 @@ impl Bookings {
         self.len >= ROOM
     }
 
+    // The slot is lent, as the rules ask of the table's own methods.
     fn put(&mut self, i: usize, b: Booking)
         requires { i < 16 }
         ensures slots { self.new.slots ≡ slice_set self.old.slots i b }
@@ -61,7 +63,7 @@ impl Bookings {
         self.len = at + 1;
     }
 
-    // The bookings behind place `i` move down by one.
+    // The bookings behind place `i` move down by one. A loop by place, since the rules ask that one slot is lent at a time.
     pub fn remove(&mut self, i: usize)
         requires fit { Fit self.old }
         requires clear { Clear self.old }
@@ -80,18 +82,23 @@ impl Bookings {
         self.len = last;
     }
 
+    // The bookings that stand, in order.
+    pub fn as_slice(&self) -> &[Booking]
+        requires { Fit self.now }
+        ensures listed { result.now ≡ listed self.now }
+        ensures few { length result.now ≤ 16 }
+    {
+        &self.slots[..self.len]
+    }
+
     // Where the action is booked for the round.
     pub fn find(&self, action: u32, round: u32) -> Option<usize>
         requires { Fit self.now }
         ensures { Place (listed self.now) (slot action round) result }
     {
-        for i in 0..self.len {
-            let b = self.slots[i];
-            if b.action as u32 == action && b.round as u32 == round {
-                return Some(i);
-            }
-        }
-        None
+        self.as_slice()
+            .iter()
+            .position(|b| b.action as u32 == action && b.round as u32 == round)
     }
 
     // Whether a booking stands in round `k` or later.
@@ -99,12 +106,7 @@ impl Bookings {
         requires { Fit self.now }
         ensures { Decides result (Late k (listed self.now)) }
     {
-        for i in 0..self.len {
-            if self.slots[i].round as u32 >= k {
-                return true;
-            }
-        }
-        false
+        self.as_slice().iter().any(|b| b.round as u32 >= k)
     }
 
     // The actions booked for the round, as a set.
@@ -114,8 +116,7 @@ impl Bookings {
         ensures { BookedFor (listed self.now) round result }
     {
         let mut actions = 0;
-        for i in 0..self.len {
-            let b = self.slots[i];
+        for b in self.as_slice() {
             if b.round == round {
                 actions |= 1 << b.action;
             }
@@ -129,12 +130,9 @@ impl Bookings {
         requires other_fit { Fit other.now }
         ensures { Decides result (AllOf (listed other.now) (listed self.now)) }
     {
-        for i in 0..other.len {
-            let b = other.slots[i];
-            if self.find(b.action as u32, b.round as u32).is_none() {
-                return false;
-            }
-        }
-        true
+        other
+            .as_slice()
+            .iter()
+            .all(|b| self.find(b.action as u32, b.round as u32).is_some())
     }
 }

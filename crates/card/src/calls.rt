@@ -50,13 +50,11 @@ impl Card {
     pub fn release(&mut self, action: u32, round: u32) -> Result<(), Refusal>
         ensures { Turns (ledger_of self.old) (release action round) (verdict_of result) (ledger_of self.new) }
     {
-        match self.bookings.find(action, round) {
-            None => Err(Refusal::NotBooked),
-            Some(place) => {
-                self.bookings.remove(place);
-                Ok(())
-            }
-        }
+        let Some(place) = self.bookings.find(action, round) else {
+            return Err(Refusal::NotBooked);
+        };
+        self.bookings.remove(place);
+        Ok(())
     }
 
     pub fn stretch(&mut self, rounds: u32) -> Result<(), Refusal>

@@ -1,5 +1,5 @@
 // What a card tells.
-ghost use Rattle.std.specs.Prelude.{◌≡◌, length, Decides};
+ghost use Rattle.std.specs.Prelude.{◌≡◌, ◌≤◌, length, Decides};
 ghost use Rattle.model.specs.Bookings.{Sound, At, BookedFor, AllOf};
 ghost use Rattle.card.specs.Views.{ledger_of};
 
@@ -18,22 +18,26 @@ impl Card {
         self.rounds
     }
 
+    // The bookings that stand, in the order of booking.
+    pub fn bookings(&self) -> &[Booking]
+        ensures bookings { result.now ≡ (ledger_of self.now).bookings }
+        ensures few { length result.now ≤ 16 }
+    {
+        self.bookings.as_slice()
+    }
+
     // How many bookings stand.
     pub fn count(&self) -> usize
         ensures { result ≡ length (ledger_of self.now).bookings }
     {
-        self.bookings.len
+        self.bookings().len()
     }
 
     // The booking at a place, in the order of booking.
     pub fn booking(&self, i: usize) -> Option<Booking>
         ensures { At (ledger_of self.now).bookings i result }
     {
-        if i < self.bookings.len {
-            Some(self.bookings.slots[i])
-        } else {
-            None
-        }
+        self.bookings().get(i).copied()
     }
 
     // The actions booked for the round, as a set.

@@ -1,49 +1,45 @@
 -- What a memory of hopeless standings means.
-use Rattle.std.specs.Prelude.{◌≡◌, ℕ, ◌-◌, Bool, cond, ◌&&◌, ◌||◌, List, [], ◌∷◌, ◌++◌, length, take, drop, is_some, Some, None, Option, ◌==◌}
+use Rattle.std.specs.Prelude.{◌≡◌, ℕ, ◌-◌, Bool, cond, ◌&&◌, ◌||◌, List, [], ◌∷◌, ◌++◌, length, drop, is_some, Some, None, Option, ◌==◌}
 use Rattle.std.specs.List.{AllByRecursion}
-use Rattle.model.specs.Sieves.{Subject, Standing, Hopeless, Rules}
-use Rattle.memory.specs.declared.told.Told.{Told}
+use Rattle.model.specs.Sieves.{Subject, Standing as IsStanding, Hopeless, Rules}
+use Rattle.model.specs.declared.Standing.{Standing}
 use Rattle.memory.specs.Lists.{among}
 use Rattle.memory.specs.Keeping.{keeps_on}
 
-abbrev pub same_told : Told → Told → Bool
+abbrev pub same_told : Standing → Standing → Bool
 same_told a c = a.state == c.state && a.t == c.t
 
-abbrev pub standing : ℕ → ℕ → Told
+abbrev pub standing : ℕ → ℕ → Standing
 standing state t = record { state = state; t = t }
 
 -- the last 128
-abbrev pub newest : List Told → List Told
+abbrev pub newest : List Standing → List Standing
 newest known = drop (length known - 128) known
 
 -- a new standing goes last, and a repeat keeps its place
-abbrev pub remember : List Told → Told → List Told
+abbrev pub remember : List Standing → Standing → List Standing
 remember known k = cond (among same_told k known) known (newest (known ++ (k ∷ [])))
 
--- a ring's places, the oldest first: those below len are filled, and the oldest is at next
-abbrev pub in_order : ℕ → ℕ → List Told → List Told
-in_order next len places = drop next (take len places) ++ take next (take len places)
-
 -- a standing that is hopeless
-abbrev pub Lost : Subject → Told → Type 0
-Lost x k = Standing x k.state k.t × Hopeless x k.state k.t
+abbrev pub Lost : Subject → Standing → Type 0
+Lost x k = IsStanding x k.state k.t × Hopeless x k.state k.t
 
 -- all are hopeless for the subject; without one there are none
-abbrev pub AllLost : Option Subject → List Told → Type 0
+abbrev pub AllLost : Option Subject → List Standing → Type 0
 AllLost None known = known ≡ []
 AllLost (Some x) known = AllByRecursion (Lost x) known
 
-abbrev pub LostFor : Option Subject → Told → Type 0
+abbrev pub LostFor : Option Subject → Standing → Type 0
 LostFor None k = ⊥
 LostFor (Some x) k = Lost x k
 
 -- a memory means its subject, what it was told in order, and the sieve below
 pub record Remembered (M : Type 0) : Type 0 where
   pub seen : Option Subject
-  pub known : List Told
+  pub known : List Standing
   pub below : M
 
-abbrev pub remembered : {M : Type 0} → Option Subject → List Told → M → Remembered M
+abbrev pub remembered : {M : Type 0} → Option Subject → List Standing → M → Remembered M
 remembered seen known below = record { seen = seen; known = known; below = below }
 
 -- once begun, it drops what the sieve below drops and what it remembers; begin and told go below too

@@ -11,14 +11,14 @@ use Rattle.model.specs.Tasks.{group}
 use Rattle.model.specs.Sieves.{Subject, Rules, Law}
 use Rattle.model.proofs.Laws.{one_prop}
 use Rattle.model.proofs.Growth.{still_standing, still_hopeless}
-use Rattle.memory.specs.declared.told.Told.{Told}
+use Rattle.model.specs.declared.Standing.{Standing}
 use Rattle.memory.specs.Lists.{among}
 use Rattle.memory.specs.Keeping.{keeps, keeps_on}
 use Rattle.memory.specs.Memories.{same_told, newest, remember, Lost, AllLost, LostFor, standing, memory_rules, MemoryWhole, MemoryKept}
 use Rattle.memory.specs.Compare.{told_test, among_test, keeps_just}
 
 -- what one more told, that is hopeless too, leaves remembered
-pub remember_lost : (o : Option Subject) (known : List Told) (k : Told) → AllLost o known → LostFor o k → AllLost o (remember known k)
+pub remember_lost : (o : Option Subject) (known : List Standing) (k : Standing) → AllLost o known → LostFor o k → AllLost o (remember known k)
 remember_lost None known k all lost = absurd lost
 remember_lost (Some x) known k all lost = by_among (among same_told k known)
   where
@@ -27,7 +27,7 @@ remember_lost (Some x) known k all lost = by_among (among same_told k known)
     by_among false = All-drop (Lost x) (length (known ++ (k ∷ [])) - 128) (known ++ (k ∷ [])) (All-push (Lost x) known k all lost)
 
 -- what a memory keeps at a begin is hopeless for the new subject
-pub keeps_lost : (o : Option Subject) (y : Subject) (known : List Told) → AllLost o known → AllLost (Some y) (cond (keeps_on o y) known [])
+pub keeps_lost : (o : Option Subject) (y : Subject) (known : List Standing) → AllLost o known → AllLost (Some y) (cond (keeps_on o y) known [])
 keeps_lost None y known all = tt
 keeps_lost (Some x) y known all = by_keeps (keeps x y) refl
   where
@@ -35,7 +35,7 @@ keeps_lost (Some x) y known all = by_keeps (keeps x y) refl
     by_keeps true e = let g = (keeps_just x y).0 e in All-weaker (Lost x) (Lost y) (λ k l. (still_standing x y g k.state k.t l.0, still_hopeless x y g k.state k.t l.1)) known all
     by_keeps false e = tt
 
-lost_prop : (x : Subject) (k : Told) → IsProp (Lost x k)
+lost_prop : (x : Subject) (k : Standing) → IsProp (Lost x k)
 lost_prop x k = ×_prop (×_prop (Π_prop (λ g. Π_prop (λ _. one_prop k.state (group x.task g)))) le_prop) (Π_prop (λ _. Π_prop (λ _. Π_prop (λ _. ⊥_prop))))
 
 pub memory_law : {M : Type 0} {P : Rules M} {v p : M → Type 0} → Law P v p → Law (memory_rules P) (MemoryWhole v) (MemoryKept P p)

@@ -4,4 +4,3 @@
 mod keep;
 pub mod memory;
 pub mod table;
-pub mod told;

@@ -2,14 +2,14 @@ ghost use Rattle.std.specs.Prelude.{◌≡◌};
 ghost use Rattle.sieve.specs.Subjects.{seen_on};
 ghost use Rattle.sieve.specs.Kinds.{Fresh};
 ghost use Rattle.memory.specs.Keeping.{KeepsJust};
-ghost use Rattle.memory.specs.Memories.{in_order, Remembered, remembered, memory_rules, MemoryWhole, MemoryKept};
+ghost use Rattle.memory.specs.Memories.{Remembered, remembered, memory_rules, MemoryWhole, MemoryKept};
 ghost use Rattle.memory.specs.Noting.{memory_law};
 ghost use Rattle.std.proofs.Common.{rules};
 
 use crate::table::Table;
-use crate::told::Told;
 use book::book::Book;
 use card::Card;
+use model::Standing;
 use sieve::sieve::Sieve;
 
 // Drops what the sieve below drops, and the last 128 different standings that it was told.
@@ -22,7 +22,7 @@ pub struct Memory<S> {
 impl<S: Sieve> Memory<S> {
     pub fn new(below: S) -> Memory<S>
         ensures below { result.below ≡ below }
-        ensures fresh { Fresh (memory_rules S.Sieve.rules) (remembered (seen_on result.table.seen) (in_order result.table.next result.table.len result.table.places) (S.Sieve.meaning result.below)) }
+        ensures fresh { Fresh (memory_rules S.Sieve.rules) (remembered (seen_on result.table.seen) result.table.known (S.Sieve.meaning result.below)) }
         ensures just { KeepsJust }
     {
         Memory {
@@ -35,7 +35,7 @@ impl<S: Sieve> Memory<S> {
 impl<S: Sieve> Sieve for Memory<S> {
     ghost Meaning = { Remembered S.Sieve.Meaning };
 
-    ghost meaning = { λ p. remembered (seen_on p.table.seen) (in_order p.table.next p.table.len p.table.places) (S.Sieve.meaning p.below) };
+    ghost meaning = { λ p. remembered (seen_on p.table.seen) p.table.known (S.Sieve.meaning p.below) };
 
     ghost rules = { memory_rules S.Sieve.rules };
 
@@ -52,17 +52,16 @@ impl<S: Sieve> Sieve for Memory<S> {
         self.table = self.table.begun(book, card);
     }
 
-    fn drops_standing(&self, state: u64, t: u8) -> bool {
-        self.table.seen.is_some()
-            && (self.below.drops_standing(state, t) || self.table.has(Told { state, t }))
+    fn drops_standing(&self, at: Standing) -> bool {
+        self.table.seen.is_some() && (self.below.drops_standing(at) || self.table.has(at))
     }
 
-    fn drops_start(&self, state: u64, t: u8, round: u64) -> bool {
-        self.table.seen.is_some() && self.below.drops_start(state, t, round)
+    fn drops_start(&self, at: Standing, round: u64) -> bool {
+        self.table.seen.is_some() && self.below.drops_start(at, round)
     }
 
-    fn told(&mut self, state: u64, t: u8) {
-        self.below.told(state, t);
-        self.table = self.table.noted(Told { state, t });
+    fn told(&mut self, at: Standing) {
+        self.below.told(at);
+        self.table = self.table.noted(at);
     }
 }

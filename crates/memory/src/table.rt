@@ -1,118 +1,82 @@
-ghost use Rattle.std.specs.Prelude.{◌≡◌, ◌<◌, ◌≤◌, [], length, if◌then◌else◌, Some, None};
+ghost use Rattle.std.specs.Prelude.{◌≡◌, [], if◌then◌else◌, Some, None};
 ghost use Rattle.sieve.specs.Subjects.{subject_of, seen_on};
 ghost use Rattle.memory.specs.Lists.{among};
 ghost use Rattle.memory.specs.Keeping.{keeps_on};
-ghost use Rattle.memory.specs.Memories.{same_told, remember, in_order, AllLost, LostFor};
+ghost use Rattle.memory.specs.Memories.{same_told, remember, AllLost, LostFor};
 
 use crate::keep::stays;
-use crate::told::Told;
 use book::book::Book;
 use card::Card;
+use few::few::Few;
+use model::Standing;
 use sieve::seen::Seen;
 
 const ROOM: usize = 128;
 
-const EMPTY: Told = Told { state: 0, t: 0 };
-
-// The last standings that were told of a subject, in a ring whose oldest is at `next`. All of them are hopeless for it.
+// The last standings that were told of a subject, the oldest first. All of them are hopeless for it.
 #[derive(Clone, Copy)]
 pub struct Table {
     pub seen: Option<Seen>,
-    pub places: [Told; ROOM],
-    pub next: usize,
-    pub len: usize,
-    ghost ring: { (length places ≡ 128) × (len ≤ 128) × (next < 128) × (len < 128 → next ≡ 0) },
-    ghost lost: { ∥ AllLost (seen_on seen) (in_order next len places) ∥₁ },
-}
-
-fn told_among(told: Told, places: &[Told]) -> bool
-    ensures { result ≡ among same_told told places.now }
-{
-    places.contains(&told)
+    pub known: Few<Standing, ROOM>,
+    ghost lost: { ∥ AllLost (seen_on seen) known ∥₁ },
 }
 
 impl Table {
     pub fn new() -> Table
         ensures seen { result.seen ≡ None }
-        ensures known { in_order result.next result.len result.places ≡ [] }
+        ensures known { result.known ≡ [] }
     {
         Table {
             seen: None,
-            places: [EMPTY; ROOM],
-            next: 0,
-            len: 0,
+            known: Few::new(),
         }
     }
 
-    pub fn has(&self, told: Told) -> bool
-        ensures { result ≡ among same_told told (in_order self.now.next self.now.len self.now.places) }
+    pub fn has(&self, told: Standing) -> bool
+        ensures { result ≡ among same_told told self.now.known }
     {
-        told_among(told, &self.places[0..self.len])
+        self.known.contains(&told)
     }
 
     // With one more standing; a repeat keeps its place.
-    pub fn noted(self, told: Told) -> Table
+    pub fn noted(self, told: Standing) -> Table
         requires { LostFor (seen_on self.seen) told }
         ensures seen { result.seen ≡ self.seen }
-        ensures known { in_order result.next result.len result.places ≡ remember (in_order self.next self.len self.places) told }
+        ensures known { result.known ≡ remember self.known told }
     {
         if self.has(told) {
             return self;
         }
-        let mut places = self.places;
-        let free = self.len;
-        if free < ROOM {
-            places[free] = told;
-            return Table {
-                seen: self.seen,
-                places,
-                next: 0,
-                len: free + 1,
-            };
-        }
-        let oldest = self.next;
-        places[oldest] = told;
-        if oldest == ROOM - 1 {
-            return Table {
-                seen: self.seen,
-                places,
-                next: 0,
-                len: ROOM,
-            };
-        }
+        let mut known = self.known;
+        known.push_last(told);
         Table {
             seen: self.seen,
-            places,
-            next: oldest + 1,
-            len: ROOM,
+            known,
         }
+    }
+
+    // Whether what was told is hopeless for book and card too.
+    fn outlasts(&self, book: &Book, card: &Card) -> bool
+        ensures { result ≡ keeps_on (seen_on self.now.seen) (subject_of book.now card.now) }
+    {
+        self.seen
+            .as_ref()
+            .is_some_and(|former| stays(former, book, card))
     }
 
     // With book and card as the subject. What was told stays where no booking was released since; else it is forgotten.
     pub fn begun(self, book: &Book, card: &Card) -> Table
         ensures seen { seen_on result.seen ≡ Some (subject_of book.now card.now) }
-        ensures known { in_order result.next result.len result.places ≡ (if keeps_on (seen_on self.seen) (subject_of book.now card.now) then in_order self.next self.len self.places else []) }
+        ensures known { result.known ≡ (if keeps_on (seen_on self.seen) (subject_of book.now card.now) then self.known else []) }
     {
-        let places = self.places;
-        let seen = Seen {
-            book: *book,
-            card: *card,
+        let known = if self.outlasts(book, card) {
+            self.known
+        } else {
+            Few::new()
         };
-        if let Some(former) = self.seen {
-            if stays(&former, book, card) {
-                return Table {
-                    seen: Some(seen),
-                    places,
-                    next: self.next,
-                    len: self.len,
-                };
-            }
-        }
         Table {
-            seen: Some(seen),
-            places,
-            next: 0,
-            len: 0,
+            seen: Some(Seen::new(book, card)),
+            known,
         }
     }
 }

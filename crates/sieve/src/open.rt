@@ -8,6 +8,7 @@ use crate::seen::Seen;
 use crate::sieve::Sieve;
 use book::book::Book;
 use card::Card;
+use model::Standing;
 
 // Drops nothing.
 #[derive(Clone, Copy)]
@@ -39,19 +40,16 @@ impl Sieve for Open {
     ghost keeps = { Prim.search rules };
 
     fn begin(&mut self, book: &Book, card: &Card) {
-        self.seen = Some(Seen {
-            book: *book,
-            card: *card,
-        });
+        self.seen = Some(Seen::new(book, card));
     }
 
-    fn drops_standing(&self, _state: u64, _t: u8) -> bool {
+    fn drops_standing(&self, _at: Standing) -> bool {
         false
     }
 
-    fn drops_start(&self, _state: u64, _t: u8, _round: u64) -> bool {
+    fn drops_start(&self, _at: Standing, _round: u64) -> bool {
         false
     }
 
-    fn told(&mut self, _state: u64, _t: u8) {}
+    fn told(&mut self, _at: Standing) {}
 }

@@ -6,9 +6,10 @@ ghost use Rattle.std.proofs.Common.{rules};
 use crate::sieve::Sieve;
 use book::book::Book;
 use card::Card;
+use model::Standing;
 
 // Two sieves in one, which from its first begin on drops what either drops. A pair of sieves that were used before is new
-// all the same, so it knows whether it was begun.
+// all the same, so it knows whether it was begun; no Option of the two would do, since both are there before.
 #[derive(Drop)]
 pub struct Pair<S, T> {
     first: S,
@@ -51,17 +52,16 @@ impl<S: Sieve, T: Sieve> Sieve for Pair<S, T> {
         self.second.begin(book, card);
     }
 
-    fn drops_standing(&self, state: u64, t: u8) -> bool {
-        self.begun && (self.first.drops_standing(state, t) || self.second.drops_standing(state, t))
+    fn drops_standing(&self, at: Standing) -> bool {
+        self.begun && (self.first.drops_standing(at) || self.second.drops_standing(at))
     }
 
-    fn drops_start(&self, state: u64, t: u8, round: u64) -> bool {
-        self.begun
-            && (self.first.drops_start(state, t, round) || self.second.drops_start(state, t, round))
+    fn drops_start(&self, at: Standing, round: u64) -> bool {
+        self.begun && (self.first.drops_start(at, round) || self.second.drops_start(at, round))
     }
 
-    fn told(&mut self, state: u64, t: u8) {
-        self.first.told(state, t);
-        self.second.told(state, t);
+    fn told(&mut self, at: Standing) {
+        self.first.told(at);
+        self.second.told(at);
     }
 }

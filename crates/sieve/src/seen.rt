@@ -1,3 +1,5 @@
+ghost use Rattle.std.specs.Prelude.{◌≡◌};
+
 use book::book::Book;
 use card::Card;
 
@@ -6,4 +8,16 @@ use card::Card;
 pub struct Seen {
     pub book: Book,
     pub card: Card,
+}
+
+impl Seen {
+    pub fn new(book: &Book, card: &Card) -> Seen
+        ensures book { result.book ≡ book.now }
+        ensures card { result.card ≡ card.now }
+    {
+        Seen {
+            book: *book,
+            card: *card,
+        }
+    }
 }

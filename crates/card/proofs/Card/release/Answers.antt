@@ -9,11 +9,11 @@ use Rattle.card.proofs.Fronts.{front_from}
 use Rattle.card.proofs.Keeps.{proper_removed, once_removed}
 use Rattle.card.proofs.Card.release.Goals as goal
 
-pub returns-in-None : goal.returns-in-None
-returns-in-None c = release_absent (ledger_of c.args.self.now) c.args.action c.args.round c.in-None.ensures
+pub returns-in_default : goal.returns-in_default
+returns-in_default c = release_absent (ledger_of c.args.self.now) c.args.action c.args.round c.in_default.ensures
 
-pub returns-in-Some : goal.returns-in-Some
-returns-in-Some c =
+pub returns : goal.returns
+returns c =
     let old = c.args.self.now in
     let xs = listed old.bookings in
     let x = slot c.args.action c.args.round in

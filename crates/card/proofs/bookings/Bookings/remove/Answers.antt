@@ -1,17 +1,11 @@
-use Rattle.std.proofs.Common.{◌+◌, ◌-◌, List, length, get_or, take, sym, ap, ◌∙◌, subst, arith}
-use Rattle.std.proofs.lemmas.List.{get_or_default, take-set, length-set}
+use Rattle.std.proofs.Common.{◌-◌, List, length, get_or, take, sym, ap, ◌∙◌, subst, arith}
+use Rattle.std.proofs.lemmas.List.{take-set, length-set}
 use Rattle.model.specs.declared.Booking.{Booking}
 use Rattle.model.specs.Ledgers.{slot}
 use Rattle.card.specs.Tables.{Empty}
 use Rattle.card.proofs.Keeps.{empty_removed}
-use Rattle.card.proofs.Shift.{shifted_none, shifted_more, shifted_all}
+use Rattle.card.proofs.Shift.{shifted_all}
 use Rattle.card.proofs.bookings.Bookings.remove.Goals as goal
-
-pub loop-j-init : goal.loop-j-init
-loop-j-init c = shifted_none _ _ (omega arith)
-
-pub loop-j-preserved : goal.loop-j-preserved
-loop-j-preserved c = shifted_more _ _ _ _ _ (omega arith) (omega arith) c.loop-j.invariant (get_or_default c.loop-j.self.slots (c.loop-j.j + 1) _ _ (omega (arith, c.loop-j.invariant.long)))
 
 pub returns : goal.returns
 returns c =
