@@ -3,14 +3,14 @@ use Rattle.std.proofs.Common.{◌≡◌, ℕ, ◌+◌, ◌<◌, ◌≤◌, eqb, 
 use Rattle.std.proofs.lemmas.Bool.{cases_lt}
 use Rattle.sets.specs.Sets.{In, Part, Lowest}
 use Rattle.model.specs.declared.Booking.{Booking}
-use Rattle.model.specs.Tasks.{Task, Has, action, bar}
-use Rattle.model.specs.Plans.{Disturb, next}
+use Rattle.model.specs.Tasks.{Task, Has, bar}
+use Rattle.model.specs.Plans.{next}
 use Rattle.model.specs.Ledgers.{slot, Among}
 use Rattle.model.specs.Bookings.{BookedFor}
 use Rattle.plan_check.specs.declared.flaws.Flaw.{Flaw}
 use Rattle.plan_check.specs.declared.flaws.Flaw.TheVariants.{StripLength, UnknownAction, MissingBooking, UnmetNeed, Disturbance, BarAfter, GoalMissed}
 use Rattle.plan_check.specs.Flaws.{flaw_number, flaw_first, flaw_second, Sooner}
-use Rattle.plan_check.specs.Finds.{LowestPair, FlawOf}
+use Rattle.plan_check.specs.Finds.{Unmet, LowestPair, ClashIn, FlawOf}
 
 module _ (b : Task) (bookings : List Booking) (t state round : ℕ) where
   abbrev Here : Flaw → Type 0
@@ -22,12 +22,6 @@ module _ (b : Task) (bookings : List Booking) (t state round : ℕ) where
   abbrev Unknown : ℕ → Type 0
   Unknown a = In a round × (Has b a → ⊥)
 
-  abbrev Unmet : ℕ → Type 0
-  Unmet a = In a round × (Part (action b a).needs state → ⊥)
-
-  abbrev Clash : ℕ → ℕ → Type 0
-  Clash a c = (a < c) × In a round × In c round × Disturb (action b a) (action b c)
-
   abbrev BarIn : ℕ → ℕ → Type 0
   BarIn s i = (i < length b.bars) × Part (bar b i) s
 
@@ -36,7 +30,7 @@ module _ (b : Task) (bookings : List Booking) (t state round : ℕ) where
   Says n i j =
       MatchBool (eqb n 24) (Unknown i)
       (MatchBool (eqb n 25) (Among (slot i t) bookings × (In i round → ⊥))
-      (MatchBool (eqb n 26) (Unmet i) (MatchBool (eqb n 27) (Clash i j) (MatchBool (eqb n 28) (BarIn (next b state round) i) ⊥))))
+      (MatchBool (eqb n 26) (Unmet b state round i) (MatchBool (eqb n 27) (ClashIn b round i j) (MatchBool (eqb n 28) (BarIn (next b state round) i) ⊥))))
 
   says : (e : Flaw) → Here e → Says (flaw_number e) (flaw_first e) (flaw_second e)
   says StripLength h = h.1
@@ -84,34 +78,27 @@ module _ (b : Task) (bookings : List Booking) (t state round : ℕ) where
 
   -- ---- the finders, one after the other
 
-  pub first_24 : (a : ℕ) → Lowest (Some a) Unknown → First (UnknownAction t a)
-  first_24 a found = first_one (UnknownAction t a) refl clear_start (refl, found.0) (λ i j. found.1 i)
-
   module _ (no_unknown : Lowest None Unknown) (booked : ℕ) (for_t : BookedFor bookings t booked) where
     clear_25 : Clear 25
     clear_25 = clear_more 24 clear_start (λ i j. no_unknown i)
-
-    pub first_25 : (a : ℕ) → Lowest (Some a) (λ a. In a booked × (In a round → ⊥)) → First (MissingBooking t a)
-    first_25 a found =
-        first_one (MissingBooking t a) refl clear_25 (refl, ((for_t a).0 found.0.0, found.0.1)) (λ i j l h. found.1 i l ((for_t i).1 h.0, h.1))
 
     module _ (no_missing : Lowest None (λ a. In a booked × (In a round → ⊥))) where
       clear_26 : Clear 26
       clear_26 = clear_more 25 clear_25 (λ i j h. no_missing i ((for_t i).1 h.0, h.1))
 
-      pub first_26 : (a : ℕ) → Lowest (Some a) Unmet → First (UnmetNeed t a)
+      pub first_26 : (a : ℕ) → Lowest (Some a) (Unmet b state round) → First (UnmetNeed t a)
       first_26 a found = first_one (UnmetNeed t a) refl clear_26 (refl, found.0) (λ i j. found.1 i)
 
-      module _ (no_unmet : Lowest None Unmet) where
+      module _ (no_unmet : Lowest None (Unmet b state round)) where
         clear_27 : Clear 27
         clear_27 = clear_more 26 clear_26 (λ i j. no_unmet i)
 
-        pub first_27 : (a c : ℕ) → LowestPair (Some (a, c)) Clash → First (Disturbance t a c)
+        pub first_27 : (a c : ℕ) → LowestPair (Some (a, c)) (ClashIn b round) → First (Disturbance t a c)
         first_27 a c found =
             first_from (Disturbance t a c) clear_27 (refl, found.0)
-            (λ i j l h. ⊎_elim (λ less. found.1 i j less h) (λ s. found.2 j s.1 (subst (λ (k : ℕ). Clash k j) s.0 h)) l)
+            (λ i j l h. ⊎_elim (λ less. found.1 i j less h) (λ s. found.2 j s.1 (subst (λ (k : ℕ). ClashIn b round k j) s.0 h)) l)
 
-        module _ (no_clash : LowestPair None Clash) (after : ℕ) (is : after ≡ next b state round) where
+        module _ (no_clash : LowestPair None (ClashIn b round)) (after : ℕ) (is : after ≡ next b state round) where
           clear_28 : Clear 28
           clear_28 = clear_more 27 clear_27 no_clash
 

@@ -7,11 +7,12 @@ use Rattle.model.specs.Plans.{Round, state_at}
 use Rattle.model.specs.Ledgers.{Ledger}
 use Rattle.model.specs.Bookings.{Sound, Serves}
 use Rattle.model.proofs.States.{state_after, run_from}
+use Rattle.rounds.proofs.Tables.{disturb_sym}
 use Rattle.plan_check.specs.declared.flaws.Flaw.{Flaw}
 use Rattle.plan_check.specs.declared.flaws.Flaw.TheVariants.{StripLength, UnknownAction, MissingBooking, UnmetNeed, Disturbance, BarAfter, GoalMissed}
 use Rattle.plan_check.specs.Flaws.{flaw_number, flaw_round, RoundFlaw, Fails, wrong_length, in_round, misses, Sooner, Checks}
 use Rattle.plan_check.specs.Finds.{FlawOf, RoundChecks}
-use Rattle.plan_check.proofs.Parts.{in_stable, part_stable, disturb_sym}
+use Rattle.plan_check.proofs.Parts.{in_stable, part_stable}
 
 module _ (b : Task) (l : Ledger) (strip : List ℕ) where
   abbrev pub at : ℕ → ℕ

@@ -1,2 +1,3 @@
 pub mod Flaws
 pub mod Finds
+pub mod Texts

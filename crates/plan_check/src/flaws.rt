@@ -1,5 +1,8 @@
-ghost use Rattle.std.specs.Prelude.{◌≡◌};
+ghost use Rattle.std.specs.Prelude.{◌≡◌, Some};
 ghost use Rattle.plan_check.specs.Flaws.{flaw_number, flaw_round};
+ghost use Rattle.plan_check.specs.Texts.{told};
+
+use std::fmt;
 
 // Why a strip is no plan. Each case has the round at fault, and the lowest action, pair or bar.
 #[derive(Clone, Copy, PartialEq, Eq, Debug)]
@@ -40,6 +43,23 @@ impl Flaw {
             | Flaw::Disturbance(t, _, _)
             | Flaw::BarAfter(t, _)
             | Flaw::GoalMissed(t) => t,
+        }
+    }
+}
+
+impl fmt::Display for Flaw {
+    ghost output = { λ f. Some (told f) };
+
+    fn fmt<W: fmt::Write>(&self, f: &mut fmt::Formatter<W>) -> fmt::Result {
+        write!(f, "no {}", self.number())?;
+        match self {
+            Flaw::StripLength => Ok(()),
+            Flaw::UnknownAction(t, a) | Flaw::MissingBooking(t, a) | Flaw::UnmetNeed(t, a) => {
+                write!(f, " round {t} action {a}")
+            }
+            Flaw::Disturbance(t, a, c) => write!(f, " round {t} actions {a} {c}"),
+            Flaw::BarAfter(t, i) => write!(f, " round {t} bar {i}"),
+            Flaw::GoalMissed(t) => write!(f, " round {t}"),
         }
     }
 }

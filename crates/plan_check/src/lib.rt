@@ -10,6 +10,7 @@ use crate::finders::{bar_in, disturbance, missing_booking, unknown_action, unmet
 use crate::flaws::Flaw;
 use book::book::Book;
 use card::Card;
+use model::Standing;
 use rounds::steps::next_state;
 use sets::is_part;
 
@@ -17,24 +18,25 @@ mod finders;
 pub mod flaws;
 
 // The state after the round, or the round's first flaw.
-fn check_round(book: &Book, card: &Card, t: u8, state: u64, round: u64) -> Result<u64, Flaw>
-    ensures { RoundChecks (task book.now.outline) (ledger_of card.now).bookings t state round result }
+fn check_round(book: &Book, card: &Card, at: Standing, round: u64) -> Result<u64, Flaw>
+    ensures { RoundChecks (task book.now.outline) (ledger_of card.now).bookings at.t at.state round result }
 {
+    // No `?`: each finder answers what it finds, or none, and each flaw is another variant.
     if let Some(a) = unknown_action(book, round) {
-        return Err(Flaw::UnknownAction(t, a));
+        return Err(Flaw::UnknownAction(at.t, a));
     }
-    if let Some(a) = missing_booking(card.booked_for(t), round) {
-        return Err(Flaw::MissingBooking(t, a));
+    if let Some(a) = missing_booking(card.booked_for(at.t), round) {
+        return Err(Flaw::MissingBooking(at.t, a));
     }
-    if let Some(a) = unmet_need(book, state, round) {
-        return Err(Flaw::UnmetNeed(t, a));
+    if let Some(a) = unmet_need(book, at.state, round) {
+        return Err(Flaw::UnmetNeed(at.t, a));
     }
     if let Some((a, c)) = disturbance(book, round) {
-        return Err(Flaw::Disturbance(t, a, c));
+        return Err(Flaw::Disturbance(at.t, a, c));
     }
-    let after = next_state(book, state, round);
+    let after = next_state(book, at.state, round);
     if let Some(i) = bar_in(book, after) {
-        return Err(Flaw::BarAfter(t, i));
+        return Err(Flaw::BarAfter(at.t, i));
     }
     Ok(after)
 }
@@ -49,8 +51,9 @@ pub fn check(book: &Book, card: &Card, strip: &[u64]) -> Result<(), Flaw>
         return Err(Flaw::StripLength);
     }
     let mut state = book.outline.initial;
-    for t in 0..rounds {
-        state = check_round(book, card, t, state, strip[t as usize])?;
+    for (t, round) in strip.iter().enumerate() {
+        let at = Standing { state, t: t as u8 };
+        state = check_round(book, card, at, *round)?;
     }
     if !is_part(book.outline.goal, state) {
         return Err(Flaw::GoalMissed(rounds));

@@ -1,11 +1,13 @@
 -- What the loops over the actions of a task gather.
-use Rattle.std.proofs.Common.{◌≡◌, ℕ, ◌+◌, ◌<◌, ◌≤◌, Bool, true, false, cond, ◌⊎◌, List, length, get_or, drop, sym, ap, ◌∙◌, inl, inr, ⊎_elim, add-one, drop_of_length-le, drop-cons}
-use lib.Bits.{bit_or, or_zero_l, or_zero_r}
-use Rattle.sets.specs.Sets.{In, has, Meet}
-use Rattle.sets.proofs.Members.{in_or, or_left, or_right, same_members}
+use Rattle.std.proofs.Common.{◌≡◌, ℕ, ◌⊎◌, sym, ap, ◌∙◌, subst, inl, inr, ⊎_elim}
+use lib.Bits.{bit_or, or_zero_r}
+use Rattle.std.proofs.lemmas.Bool.{cases_eq}
+use Rattle.sets.specs.Sets.{In, Meet, Splits}
+use Rattle.sets.proofs.Members.{nothing_in, in_or, or_left, or_right, same_members}
 use Rattle.model.specs.declared.Action.{Action}
-use Rattle.model.specs.Tasks.{idle}
+use Rattle.model.specs.Tasks.{Task, action, Has}
 use Rattle.model.specs.Plans.{gathered, Disturb}
+use Rattle.model.proofs.Moves.{SomeOf, some_of, of_some}
 
 or_assoc : (a b c : ℕ) → bit_or (bit_or a b) c ≡ bit_or a (bit_or b c)
 or_assoc a b c =
@@ -13,25 +15,46 @@ or_assoc a b c =
     (λ i h. ⊎_elim (λ k. ⊎_elim (λ m. or_left i a (bit_or b c) m) (λ m. or_right i a (bit_or b c) (or_left i b c m)) (in_or i a b k)) (λ k. or_right i a (bit_or b c) (or_right i b c k)) (in_or i (bit_or a b) c h))
     (λ i h. ⊎_elim (λ k. or_left i (bit_or a b) c (or_left i a b k)) (λ k. ⊎_elim (λ m. or_left i (bit_or a b) c (or_right i a b m)) (λ m. or_right i (bit_or a b) c m) (in_or i b c k)) (in_or i a (bit_or b c) h))
 
-module _ (part : Action → ℕ) (acts : List Action) (round : ℕ) where
-  -- what the actions from i on give
-  abbrev pub rest : ℕ → ℕ
-  rest i = gathered part i (drop i acts) round
+-- with what the members that are left give, all that the round gives is there
+abbrev pub Whole : (Action → ℕ) → Task → (left round acc : ℕ) → Type 0
+Whole part b left round acc = bit_or acc (gathered part 0 b.actions left) ≡ gathered part 0 b.actions round
 
-  rest_step : (i : ℕ) → i < length acts → rest i ≡ bit_or (cond (has i round) (part (get_or acts i idle)) 0) (rest (i + 1))
-  rest_step i h = ap (λ l. gathered part i l round) (drop-cons acts i idle h) ∙ ap (λ (n : ℕ). bit_or (cond (has i round) (part (get_or acts i idle)) 0) (rest n)) (sym (add-one i))
+-- what the actions of a set give, from what they give with one member taken out
+module _ (part : Action → ℕ) (b : Task) (left i rest : ℕ) (split : Splits left i rest) where
+  abbrev given : ℕ → ℕ
+  given s = gathered part 0 b.actions s
 
-  pub gather_in : (acc i : ℕ) → i < length acts → has i round ≡ true → bit_or (bit_or acc (part (get_or acts i idle))) (rest (i + 1)) ≡ bit_or acc (rest i)
-  gather_in acc i h e =
-      or_assoc acc (part (get_or acts i idle)) (rest (i + 1))
-      ∙ ap (λ (b : Bool). bit_or acc (bit_or (cond b (part (get_or acts i idle)) 0) (rest (i + 1)))) (sym e) ∙ ap (bit_or acc) (sym (rest_step i h))
+  kept : (f : ℕ) → In f (given rest) → In f (given left)
+  kept f h =
+      let x = some_of part b rest f h in
+      of_some part b left f (record { which = x.which; known = x.known; taken = (split.others.only x.which x.taken).0; here = x.here })
 
-  pub gather_out : (acc i : ℕ) → i < length acts → has i round ≡ false → bit_or acc (rest (i + 1)) ≡ bit_or acc (rest i)
-  gather_out acc i h e =
-      ap (bit_or acc) (sym (or_zero_l (rest (i + 1))) ∙ ap (λ (b : Bool). bit_or (cond b (part (get_or acts i idle)) 0) (rest (i + 1))) (sym e) ∙ sym (rest_step i h))
+  of_i : (f : ℕ) → SomeOf part b left f → In f (given rest) ⊎ (Has b i × In f (part (action b i)))
+  of_i f x =
+      ⊎_elim (λ e. inr (subst (Has b) e x.known, subst (λ (k : ℕ). In f (part (action b k))) e x.here))
+      (λ ne. inl (of_some part b rest f (record { which = x.which; known = x.known; taken = split.others.all x.which (x.taken, ne); here = x.here }))) (cases_eq x.which i)
 
-  pub gather_all : (acc i : ℕ) → length acts ≤ i → acc ≡ bit_or acc (rest i)
-  gather_all acc i h = sym (or_zero_r acc) ∙ ap (λ l. bit_or acc (gathered part i l round)) (sym (drop_of_length-le acts h))
+  module _ (acc round : ℕ) where
+    -- one that the book has
+    pub gather_in : Has b i → (a : Action) → a ≡ action b i → Whole part b left round acc → Whole part b rest round (bit_or acc (part a))
+    gather_in known a is whole =
+        or_assoc acc (part a) (given rest)
+        ∙ ap (bit_or acc) (same_members (bit_or (part a) (given rest)) (given left)
+        (λ f h. ⊎_elim (λ k. of_some part b left f (record { which = i; known = known; taken = split.member; here = subst (λ (c : Action). In f (part c)) is k })) (kept f) (in_or f (part a) (given rest) h))
+        (λ f h. ⊎_elim (or_right f (part a) (given rest)) (λ k. or_left f (part a) (given rest) (subst (λ (c : Action). In f (part c)) (sym is) k.1)) (of_i f (some_of part b left f h))))
+        ∙ whole
+
+    -- one that the book lacks
+    pub gather_out : (Has b i → ⊥) → Whole part b left round acc → Whole part b rest round acc
+    gather_out lacks whole =
+        ap (bit_or acc) (same_members (given rest) (given left) kept (λ f h. ⊎_elim (λ k. k) (λ k. absurd (lacks k.0)) (of_i f (some_of part b left f h)))) ∙ whole
+
+pub gather_all : (part : Action → ℕ) (b : Task) (left round acc : ℕ) → left ≡ 0 → Whole part b left round acc → acc ≡ gathered part 0 b.actions round
+gather_all part b left round acc none whole =
+    sym (or_zero_r acc)
+    ∙ ap (bit_or acc) (same_members 0 (gathered part 0 b.actions left) (λ f h. absurd (nothing_in f h))
+    (λ f h. absurd (let x = some_of part b left f h in nothing_in x.which (subst (λ (n : ℕ). In x.which n) none x.taken))))
+    ∙ whole
 
 -- ---- disturbance as two common members
 

@@ -1,21 +1,22 @@
 -- The steps of the search: what a node's answer is, from those of its two parts or from a look at the node alone.
-use Rattle.std.proofs.Common.{◌≡◌, ℕ, ◌*◌, ◌%◌, ◌^◌, ◌<◌, ◌≤◌, ◌⊎◌, length, get_or, Some, None, Option, sym, refl, ap, ◌∙◌, subst, inl, inr, ⊎_elim, arith}
+use Rattle.std.proofs.Common.{◌≡◌, ℕ, ◌*◌, ◌%◌, ◌^◌, ◌<◌, ◌≤◌, ◌⊎◌, get_or, Some, None, Option, sym, refl, ap, ◌∙◌, subst, inl, inr, ⊎_elim, arith}
+use mathlib.Core.Logic.{∥∥₁_elim}
+use mathlib.Core.HLevel.{⊥_prop}
 use lib.Bits.{bit_or, or_zero_r}
 use Rattle.std.proofs.lemmas.Bool.{cases_eq}
 use Rattle.sets.specs.Sets.{In, Part, without, Marks}
-use Rattle.sets.proofs.Members.{out_or_in, in_or, or_left, or_right, in_without, without_in, same_members, single_is, single_has, shift_is}
+use Rattle.sets.proofs.Members.{nothing_in, out_or_in, in_or, or_left, or_right, in_without, without_in, same_members, single_is, single_has, shift_is}
 use Rattle.model.specs.declared.Action.{Action}
-use Rattle.model.specs.Tasks.{Task, idle, action, bar}
+use Rattle.model.specs.Tasks.{Task, action, bar, Lawful}
 use Rattle.model.specs.Plans.{Disturb, next, Clear, Round}
 use Rattle.model.proofs.Moves.{SomeOf, in_next, stays_in, comes_in}
 use Rattle.book.specs.Views.{task}
-use Rattle.book.proofs.Fronts.{action_is, actions_are}
 use Rattle.rounds.specs.declared.finder.Node.{Node}
 use Rattle.rounds.specs.declared.masks.Masks.{Masks}
 use Rattle.rounds.specs.Firsts.{Good, NoneOn, Answered}
 use Rattle.rounds.specs.Joins.{Joins, Loose}
-use Rattle.rounds.specs.Nodes.{Highest, Inside, Sound, BreaksAny, Doomed, Found, Lost, Searched}
-use Rattle.rounds.proofs.Orders.{part_le, all_below, ascends}
+use Rattle.rounds.specs.Nodes.{Inside, Sound, BreaksAny, Doomed, Found, Lost, Searched}
+use Rattle.rounds.proofs.Orders.{Highest, part_le, all_below, ascends}
 use Rattle.rounds.proofs.Tables.{disturb_sym, quiet, not_beside}
 
 -- ---- lawful rounds as loose sets that end clear
@@ -59,26 +60,24 @@ module _ (b : Task) (state low : ℕ) (n : Node) where
             ⊎_elim (λ old. stays_in b state q f old.0 (kept f h old.1)) (λ new. comes_in b state q f (more (λ a. a.adds) b n.taken q f inside.0 new))
             (in_next b state n.taken f (subst (λ (s : ℕ). In f s) sound.moved (doomed.stands f h)))
 
-    pub leaf_found : low ≤ bit_or n.taken n.free → n.free ≡ 0 → Clear b n.reached → Found b state low n n.taken
-    leaf_found over none clear = record {
+    pub leaf_found : low ≤ bit_or n.taken n.free → n.free ≡ 0 → ((k : ℕ) × Doomed b n.reached n.free k → ⊥) → Found b state low n n.taken
+    leaf_found over none sure = record {
       inside = (λ i h. h, λ i h. or_left i n.taken n.free h);
       least = omega (arith, ap (bit_or n.taken) none, or_zero_r n.taken);
-      lawful = loose_round b state n.taken sound.loose (subst (Clear b) sound.moved clear);
+      lawful = loose_round b state n.taken sound.loose
+          (subst (Clear b) sound.moved (λ k within stands. sure (k, record { within = within; stands = stands; stuck = λ j h. absurd (nothing_in j (subst (λ (s : ℕ). In j s) none h)) })));
       first = λ q inside _ less _. omega (arith, part_le n.taken q inside.0);
     }
 
 -- ---- a node and its two parts: without its highest free action, and with it
 
-module _ (m : Masks) (state low : ℕ) (n : Node) (sound : Sound (task m.book.outline) state n) (i : ℕ) (small : i < 64) (top : Highest n.free i) where
+module _ (m : Masks) (state low : ℕ) (n : Node) (sound : Sound (task m.book.outline) state n) (i : ℕ) (top : Highest n.free i) (act : Action) (acts : act ≡ action (task m.book.outline) i) where
   -- the terms of the code
   abbrev b : Task
   b = task m.book.outline
 
   abbrev here : ℕ
   here = (1 * 2 ^ i) % 2 ^ 64
-
-  abbrev act : Action
-  act = get_or m.book.outline.actions i idle
 
   abbrev row : ℕ
   row = get_or m.clashes i 0
@@ -96,16 +95,13 @@ module _ (m : Masks) (state low : ℕ) (n : Node) (sound : Sound (task m.book.ou
   taking = record { taken = more_taken; free = without rest row; reached = bit_or (without n.reached act.deletes) act.adds }
 
   is_here : (j : ℕ) → In j here → j ≡ i
-  is_here j h = single_is i j (subst (λ (s : ℕ). In j s) (shift_is i small) h)
+  is_here j h = single_is i j (subst (λ (s : ℕ). In j s) (shift_is i top.small) h)
 
   here_has : In i here
-  here_has = subst (λ (s : ℕ). In i s) (sym (shift_is i small)) (single_has i)
+  here_has = subst (λ (s : ℕ). In i s) (sym (shift_is i top.small)) (single_has i)
 
   joins_i : Joins b state n.taken i
   joins_i = sound.opens i top.here
-
-  acts : act ≡ action b i
-  acts = sym (action_is m.book.outline i (omega (arith, joins_i.known, actions_are m.book.outline m.book.wide m.book.counted)))
 
   taken_or : (j : ℕ) → In j more_taken → In j n.taken ⊎ (j ≡ i)
   taken_or j h = ⊎_elim inl (λ k. inr (is_here j k)) (in_or j n.taken here h)
@@ -311,5 +307,5 @@ pub none_loose : (b : Task) (state must free low : ℕ) → Marks (Joins b state
 none_loose b state must free low marks bars q l good = bars (λ i h. marks.all i (good_loose b state must q good i (good.1 i h)))
 
 -- no round has a number from 2 ^ 64 on
-pub none_past : (b : Task) (state must : ℕ) → length b.actions ≤ 64 → NoneOn b state must (2 ^ 64)
-none_past b state must few q l good = omega (arith, all_below 64 q (λ i h. omega (arith, good.0.known i h)))
+pub none_past : (b : Task) (state must from : ℕ) → ∥ Lawful b ∥₁ → 2 ^ 64 ≤ from → NoneOn b state must from
+none_past b state must from lawful past q l good = ∥∥₁_elim lawful ⊥_prop (λ ok. omega (arith, past, l, all_below 64 q (λ i h. omega (arith, good.0.known i h, ok.few_actions))))

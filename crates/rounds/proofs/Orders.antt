@@ -1,13 +1,12 @@
 -- Sets in the order of their numbers.
-use Rattle.std.proofs.Common.{◌≡◌, ℕ, suc, ◌+◌, ◌-◌, ◌*◌, ◌/◌, ◌%◌, ◌^◌, ◌<◌, ◌≤◌, sym, ap, ◌∙◌, subst, ⊎_elim, mod-lt, pow-suc, arith, pow_pos, shr-shr}
+use Rattle.std.proofs.Common.{◌≡◌, ℕ, suc, ◌+◌, ◌*◌, ◌/◌, ◌%◌, ◌^◌, ◌<◌, ◌≤◌, Some, Option, sym, ap, ◌∙◌, subst, ⊎_elim, mod-lt, pow-suc, arith, pow_pos, shr-shr}
+use Rattle.std.specs.Option.{IfSome}
 use lib.Bits.{and_le_r}
-use lib.Count.{count_leading_zeros, leading_top}
 use lib.Pow.{shr_mono, split}
 use Rattle.std.proofs.lemmas.Nat.{div_below, le-div}
 use Rattle.std.proofs.lemmas.Bool.{cases_lt, cases_eq}
 use Rattle.sets.specs.Sets.{In, Part, without}
 use Rattle.sets.proofs.Members.{digit, out_or_in, digit_half, some_member, same_members, in_below, in_without, part_to, single_has, shift_is}
-use Rattle.rounds.specs.Nodes.{Highest}
 
 pub part_le : (a b : ℕ) → Part a b → a ≤ b
 part_le a b part = omega (arith, part_to a b part, and_le_r a b)
@@ -37,18 +36,25 @@ ascends i q r there back out here =
     same =
         same_members (q / 2 ^ i / 2) (r / 2 ^ i / 2) (λ j h. above r j ∙ there (i + suc j) (omega arith) (sym (above q j) ∙ h)) (λ j h. above q j ∙ back (i + suc j) (omega arith) (sym (above r j) ∙ h))
 
-pub highest_is : (s : ℕ) → (s ≡ 0 → ⊥) → s < 2 ^ 64 → Highest s (63 - count_leading_zeros 64 s)
-highest_is s some small =
-    let top = leading_top 64 s (omega arith) small in
-    let i = top.0 in
-    let is : i ≡ 63 - count_leading_zeros 64 s = omega (arith, top.1) in
-    subst (Highest s) is (record {
-      here = omega (arith, le-div 1 s (2 ^ i) (pow_pos i) (omega (arith, top.2)), div_below s (2 ^ i) 2 (pow_pos i) (omega (arith, top.3, pow-suc 2 i)));
-      most = λ j h. omega (arith, in_below (suc i) j s top.3 h);
-    })
+-- i is the greatest member of s
+pub record Highest (s i : ℕ) : Type 0 where
+  pub small : i < 64
+  pub here : In i s
+  pub most : (j : ℕ) → In j s → j ≤ i
+
+-- the logarithm of a set is its greatest member
+pub highest_is : (s i : ℕ) {r : Option ℕ} → r ≡ Some i → IfSome r (λ k. 2 ^ k ≤ s) → IfSome r (λ k. s < 2 * 2 ^ k) → IfSome r (λ k. k < 64) → Highest s i
+highest_is s i is above below small =
+    let a : 2 ^ i ≤ s = subst (λ o. IfSome o (λ k. 2 ^ k ≤ s)) is above in
+    let b : s < 2 * 2 ^ i = subst (λ o. IfSome o (λ k. s < 2 * 2 ^ k)) is below in
+    record {
+      small = subst (λ o. IfSome o (λ k. k < 64)) is small;
+      here = omega (arith, le-div 1 s (2 ^ i) (pow_pos i) (omega (arith, a)), div_below s (2 ^ i) 2 (pow_pos i) b);
+      most = λ j h. let less : j < suc i = in_below (suc i) j s (omega (arith, b, pow-suc 2 i)) h in omega (arith, less);
+    }
 
 -- a set without its greatest member is a lesser number
-pub rest_less : (s i : ℕ) → i < 64 → Highest s i → without s ((1 * 2 ^ i) % 2 ^ 64) < s
-rest_less s i small top =
-    let here = subst (λ (n : ℕ). In i n) (sym (shift_is i small)) (single_has i) in
+pub rest_less : (s i : ℕ) → Highest s i → without s ((1 * 2 ^ i) % 2 ^ 64) < s
+rest_less s i top =
+    let here = subst (λ (n : ℕ). In i n) (sym (shift_is i top.small)) (single_has i) in
     ⊎_elim (λ e. absurd ((in_without i s _ (subst (λ (n : ℕ). In i n) (sym e) top.here)).1 here)) (λ ne. omega (arith, without_le s ((1 * 2 ^ i) % 2 ^ 64))) (cases_eq (without s ((1 * 2 ^ i) % 2 ^ 64)) s)

@@ -8,11 +8,6 @@ use Rattle.rounds.specs.declared.finder.Node.{Node}
 use Rattle.rounds.specs.Joins.{Joins, Loose}
 use Rattle.rounds.specs.Tables.{Breaks}
 
--- i is the greatest member of s
-pub record Highest (s i : ℕ) : Type 0 where
-  pub here : In i s
-  pub most : (j : ℕ) → In j s → j ≤ i
-
 -- q has all the actions that the node has taken, and else only free ones
 abbrev pub Inside : Node → ℕ → Type 0
 Inside n q = Part n.taken q × Part q (bit_or n.taken n.free)

@@ -1,14 +1,17 @@
-ghost use Rattle.std.specs.Prelude.{◌≡◌, ◌<◌};
+ghost use Rattle.std.specs.Prelude.{◌≡◌};
 ghost use Rattle.sets.specs.Sets.{Marks};
 ghost use Rattle.book.specs.Views.{task};
 ghost use Rattle.rounds.specs.Tables.{Clash, Breaks, Clashes, Breakers};
 
-use crate::steps::disturb;
+use crate::steps::clash;
 use book::book::Book;
+use sets::gather::gather;
 use sets::meets;
+use std::array;
 
 // A book with two tables that the finder reads in the place of its actions: the set of the actions that each action
 // clashes with, and the set of those that break each bar. Filled once per book; the type says what they hold.
+// Arrays, since each place is in use: the place of an action or a bar that the book lacks is the empty set.
 #[derive(Clone, Copy)]
 pub struct Masks {
     pub book: Book,
@@ -19,51 +22,32 @@ pub struct Masks {
 }
 
 // The actions that clash with the action i.
-fn clashing(book: &Book, i: usize) -> u64
-    requires { i < book.now.outline.action_count }
+fn clashing(book: &Book, i: u32) -> u64
     ensures { Marks (Clash (task book.now.outline) i) result }
 {
-    let action = book.outline.actions[i];
-    let mut set = 0;
-    for j in 0..book.outline.action_count as usize {
-        if j != i && disturb(action, book.outline.actions[j]) {
-            set |= 1 << j;
-        }
-    }
-    set
+    gather(book.actions().len() as u32, |j| clash(book, i, j))
 }
 
-// The actions that break the bar k.
+// The actions that break the bar k; a bar that the book lacks has no fact.
 fn breaking(book: &Book, k: usize) -> u64
-    requires { k < book.now.outline.bar_count }
     ensures { Marks (Breaks (task book.now.outline) k) result }
 {
-    let bar = book.outline.bars[k];
-    let mut set = 0;
-    for j in 0..book.outline.action_count as usize {
-        if meets(book.outline.actions[j].deletes, bar) {
-            set |= 1 << j;
-        }
-    }
-    set
+    let actions = book.actions();
+    let bar = book.bars().get(k).copied().unwrap_or(0);
+    gather(actions.len() as u32, |j| {
+        meets(actions[j as usize].deletes, bar)
+    })
 }
 
 impl Masks {
     pub fn new(book: Book) -> Masks
         ensures { result.book ≡ book }
     {
-        let mut clashes = [0; 64];
-        for i in 0..book.outline.action_count as usize {
-            clashes[i] = clashing(&book, i);
-        }
-        let mut breakers = [0; 8];
-        for k in 0..book.outline.bar_count as usize {
-            breakers[k] = breaking(&book, k);
-        }
+        book.law();
         Masks {
             book,
-            clashes,
-            breakers,
+            clashes: array::from_fn(|i| clashing(&book, i as u32)),
+            breakers: array::from_fn(|k| breaking(&book, k)),
         }
     }
 }

@@ -1,16 +1,16 @@
 -- What a whole search does and says, from the begin of its sieve on.
-use Rattle.std.proofs.Common.{◌≡◌, ℕ, ◌≤◌, true, false, ◌⊎◌, List, ◌++◌, length, take, drop, Some, None, sym, refl, ap, ◌∙◌, subst, subst₂, zero-add, arith}
+use Rattle.std.proofs.Common.{◌≡◌, ℕ, true, false, ◌⊎◌, List, ◌++◌, length, take, drop, Some, None, sym, refl, ap, ◌∙◌, subst, zero-add, arith}
 use lib.Seq.{take-append_seam}
 use Rattle.model.specs.Plans.{Before}
 use Rattle.model.specs.Ledgers.{find, Turns}
 use Rattle.model.specs.Bookings.{Serves}
-use Rattle.model.specs.Sieves.{Subject, Genuine, Standing, Rules, Law}
+use Rattle.model.specs.Sieves.{Subject, Genuine, Rules, Law}
 use Rattle.model.specs.Behaviours.{behaviour}
 use Rattle.model.specs.Claims.{Answer, none, plan, ended, Walked, dropped_at_once, went, Shows, Right, Step, searched, EveryList}
-use Rattle.model.proofs.Judged.{FirstWay, beginning, none_serves, first_serves}
+use Rattle.model.proofs.Judged.{beginning, none_serves, first_serves}
 use Rattle.model.proofs.Behaviours.{ends_with, searches_by}
 use Rattle.model.proofs.Every.{every_list}
-use Rattle.search.specs.declared.outcome.Counts.{Counts}
+use Rattle.model.specs.declared.counts.Counts.{Counts}
 use Rattle.search.specs.Visits.{Found, Lost}
 use Rattle.search.proofs.Steps.{shown}
 

@@ -1,12 +1,12 @@
 -- One step of the loop over the rounds of a standing, and what its walk says.
-use Rattle.std.proofs.Common.{◌≡◌, ℕ, suc, ◌+◌, ◌-◌, ◌^◌, ◌<◌, ◌≤◌, min, Bool, true, false, ◌⊎◌, List, [], ◌∷◌, ◌++◌, length, get_or, take, drop, set, Some, None, Option, sym, refl, ap, ◌∙◌, subst, subst₂, inl, inr, append_assoc, add-one, arith, take-append-drop, length-take-le, take-suc}
+use Rattle.std.proofs.Common.{◌≡◌, ℕ, suc, ◌+◌, ◌^◌, ◌<◌, ◌≤◌, true, false, ◌⊎◌, List, [], ◌∷◌, ◌++◌, length, get_or, take, drop, set, Some, None, Option, sym, refl, ap, ◌∙◌, subst₂, append_assoc, arith, take-append-drop, length-take-le, take-suc}
 use lib.Seq.{set_at}
 use Rattle.model.specs.Plans.{next}
 use Rattle.model.specs.Sieves.{Subject, Genuine, Standing, Rules, Law}
 use Rattle.model.specs.Walks.{FirstFrom, NoneFrom, Walk, at, rounds, opened, exhausted, dropped, failed, found}
 use Rattle.model.specs.Claims.{capped}
 use Rattle.model.proofs.Judged.{Outcome, by_law, judged}
-use Rattle.search.specs.declared.outcome.Counts.{Counts}
+use Rattle.model.specs.declared.counts.Counts.{Counts}
 use Rattle.search.specs.Visits.{written, Counted, Found, Lost}
 
 one_before : (ys p : List ℕ) (t r : ℕ) → t < length ys → set (written ys (suc t) p) t r ≡ written ys t (r ∷ p)

@@ -1,12 +1,10 @@
 -- What a walk goes over.
-use Rattle.std.specs.Prelude.{ℕ, ◌<◌, List, length, Some, None, Option, slice_index}
+use Rattle.std.specs.Prelude.{ℕ, List, Some, None, Option}
 use Rattle.model.specs.declared.Booking.{Booking}
 use Rattle.model.specs.Tasks.{Task, Has}
 use Rattle.model.specs.Ledgers.{Among}
-use Rattle.model.specs.Bookings.{BookedFor}
 use Rattle.model.specs.Sieves.{Subject}
 use Rattle.model.specs.Walks.{FirstFrom, NoneFrom}
-use Rattle.card.specs.Views.{ledger_of}
 use Rattle.sieve.specs.Subjects.{subject_of}
 use Rattle.search.specs.declared.course.Course.{Course}
 
@@ -16,10 +14,6 @@ Unknown b bookings = (y : Booking) × Among y bookings × (Has b y.action → �
 
 abbrev pub subject_on : Course → Subject
 subject_on c = subject_of c.masks.book c.card
-
--- its table has for each round the actions booked for it
-abbrev pub Charged : Course → Type 0
-Charged c = (t : ℕ) → t < 32 → BookedFor (ledger_of c.card).bookings t (slice_index c.must t)
 
 -- the first open round from a number on, or none where there is none
 abbrev pub NextFrom : Subject → ℕ → ℕ → ℕ → Option ℕ → Type 0

@@ -1,3 +1,4 @@
+pub mod Charges
 pub mod Courses
 pub mod Outcomes
 pub mod Visits

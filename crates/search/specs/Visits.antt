@@ -3,7 +3,7 @@ use Rattle.std.specs.Prelude.{◌≡◌, ℕ, ◌+◌, Bool, true, false, List, 
 use Rattle.model.specs.Sieves.{Subject, Rules}
 use Rattle.model.specs.Walks.{Walk, at}
 use Rattle.model.specs.Claims.{capped}
-use Rattle.search.specs.declared.outcome.Counts.{Counts}
+use Rattle.model.specs.declared.counts.Counts.{Counts}
 
 -- the strip with p written from t on
 abbrev pub written : List ℕ → ℕ → List ℕ → List ℕ

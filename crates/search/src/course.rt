@@ -1,67 +1,43 @@
-ghost use Rattle.std.specs.Prelude.{◌≡◌, ℕ, ◌<◌, length, Decides, slice_index};
-ghost use Rattle.model.specs.Bookings.{BookedFor};
-ghost use Rattle.book.specs.Views.{task};
-ghost use Rattle.card.specs.Views.{ledger_of};
-ghost use Rattle.rounds.specs.Firsts.{past};
-ghost use Rattle.search.specs.Courses.{Unknown, subject_on, Charged, NextFrom};
+ghost use Rattle.search.specs.Charges.{Charged};
 
 use book::book::Book;
 use card::Card;
+use model::Standing;
 use rounds::finder::round_after;
 use rounds::masks::Masks;
+use std::array;
 
-// What a walk goes over, worked out once: the book with the masks of its actions, the card, and the actions booked for each round.
+// What a walk goes over, worked out once: the book with the masks of its actions, the card, and the actions booked for each round: an array,
+// since each place is in use, the empty set where nothing is booked.
 #[derive(Clone, Copy)]
 pub(crate) struct Course {
     pub(crate) masks: Masks,
     pub(crate) card: Card,
     pub(crate) must: [u64; 32],
-}
-
-// Whether the book lacks the action of some booking.
-pub(crate) fn has_unknown(book: &Book, card: &Card) -> bool
-    ensures { Decides result (Unknown (task book.now.outline) (ledger_of card.now).bookings) }
-{
-    for i in 0..card.count() {
-        if let Some(booking) = card.booking(i) {
-            if booking.action >= book.outline.action_count {
-                return true;
-            }
-        }
-    }
-    false
-}
-
-// The actions booked for each round.
-fn must_table(card: &Card) -> [u64; 32]
-    ensures { (t : ℕ) → t < 32 → BookedFor (ledger_of card.now).bookings t (slice_index result t) }
-{
-    let mut must = [0; 32];
-    for t in 0..32 {
-        must[t as usize] = card.booked_for(t);
-    }
-    must
+    ghost charged: { ∥ Charged card must ∥₁ },
 }
 
 impl Course {
+    ghost use Rattle.std.specs.Prelude.{◌≡◌, ◌<◌};
+    ghost use Rattle.rounds.specs.Firsts.{past};
+    ghost use Rattle.search.specs.Courses.{subject_on, NextFrom};
+
     pub(crate) fn new(book: &Book, card: &Card) -> Course
         ensures book { result.masks.book ≡ book.now }
         ensures card { result.card ≡ card.now }
-        ensures charged { Charged result }
     {
         Course {
             masks: Masks::new(*book),
             card: *card,
-            must: must_table(card),
+            must: array::from_fn(|t| card.booked_for(t as u8)),
         }
     }
 
-    // The first lawful round of the state past `after` that holds the bookings of t.
-    pub(crate) fn open_round(&self, state: u64, t: u8, after: Option<u64>) -> Option<u64>
-        requires charged { Charged self.now }
-        requires early { t < 32 }
-        ensures { NextFrom (subject_on self.now) state t (past after) result }
+    // The first lawful round of the standing past `after` that holds the bookings of its round.
+    pub(crate) fn open_round(&self, at: Standing, after: Option<u64>) -> Option<u64>
+        requires { at.t < 32 }
+        ensures { NextFrom (subject_on self.now) at.state at.t (past after) result }
     {
-        round_after(&self.masks, state, self.must[t as usize], after)
+        round_after(&self.masks, at.state, self.must[at.t as usize], after)
     }
 }

@@ -1,14 +1,9 @@
 ghost use Rattle.std.specs.Prelude.{◌≡◌};
 ghost use Rattle.search.specs.Outcomes.{number};
 
-// How many standings a walk opened, and how many drops it counted. Each stops at the greatest u64.
-#[derive(Clone, Copy, PartialEq, Eq, Debug)]
-pub struct Counts {
-    pub opened: u64,
-    pub dropped: u64,
-}
+pub use model::counts::Counts;
 
-// What a search found: no plan, or one, which it wrote on the strip.
+// What a search found: no plan, or one, which it wrote on the strip. Both have the counts: a struct would hold a flag beside them.
 #[derive(Clone, Copy, PartialEq, Eq, Debug)]
 pub enum Outcome {
     NoPlan(Counts),

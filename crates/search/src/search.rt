@@ -1,16 +1,29 @@
+ghost use Rattle.std.specs.Prelude.{Decides};
 ghost use Rattle.model.specs.Behaviours.{behaviour};
 ghost use Rattle.model.specs.Claims.{Shows, Right, Step, searched, EveryList};
 ghost use Rattle.book.specs.Views.{task};
 ghost use Rattle.card.specs.Views.{ledger_of};
 ghost use Rattle.sieve.specs.Subjects.{subject_of};
+ghost use Rattle.search.specs.Courses.{Unknown};
 ghost use Rattle.search.specs.Outcomes.{answer_of};
 
-use crate::course::{Course, has_unknown};
+use crate::course::Course;
 use crate::outcome::{Counts, Outcome, Refusal};
 use crate::visit::visit;
 use book::book::Book;
 use card::Card;
+use model::Standing;
 use sieve::sieve::Sieve;
+
+// Whether the book lacks the action of some booking.
+fn has_unknown(book: &Book, card: &Card) -> bool
+    ensures { Decides result (Unknown (task book.now.outline) (ledger_of card.now).bookings) }
+{
+    let count = book.actions().len();
+    card.bookings()
+        .iter()
+        .any(|booking| booking.action as usize >= count)
+}
 
 // The first plan of the book that serves the card, written on the strip, or none where none does; with the numbers of the walk. A
 // refused search leaves sieve and strip as they were.
@@ -38,12 +51,15 @@ pub fn search<S: Sieve>(
         dropped: 0,
     };
     sieve.begin(book, card);
-    let initial = book.outline.initial;
-    if sieve.drops_standing(initial, 0) {
+    let start = Standing {
+        state: book.outline.initial,
+        t: 0,
+    };
+    if sieve.drops_standing(start) {
         return Ok(Outcome::NoPlan(counts));
     }
     let course = Course::new(book, card);
-    if visit(&course, sieve, initial, 0, &mut counts, strip) {
+    if visit(&course, sieve, start, &mut counts, strip) {
         Ok(Outcome::Plan(counts))
     } else {
         Ok(Outcome::NoPlan(counts))

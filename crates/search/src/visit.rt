@@ -1,10 +1,11 @@
 ghost use Rattle.std.specs.Prelude.{◌≡◌, ◌≤◌, length, Some};
-ghost use Rattle.model.specs.Sieves.{Genuine, Standing};
-ghost use Rattle.search.specs.Courses.{subject_on, Charged};
+ghost use Rattle.model.specs.Sieves.{Genuine, Standing as IsStanding};
+ghost use Rattle.search.specs.Courses.{subject_on};
 ghost use Rattle.search.specs.Visits.{Did};
 
 use crate::course::Course;
 use crate::outcome::Counts;
+use model::Standing;
 use rounds::steps::next_state;
 use sets::is_part;
 use sieve::sieve::Sieve;
@@ -13,38 +14,41 @@ use sieve::sieve::Sieve;
 pub(crate) fn visit<S: Sieve>(
     course: &Course,
     sieve: &mut S,
-    state: u64,
-    t: u8,
+    at: Standing,
     counts: &mut Counts,
     strip: &mut [u64],
 ) -> bool
     requires genuine { Genuine (subject_on course.now) }
-    requires charged { Charged course.now }
-    requires standing { Standing (subject_on course.now) state t }
+    requires standing { IsStanding (subject_on course.now) at.state at.t }
     requires room { (subject_on course.now).card.rounds ≤ length strip.old }
     requires known { S.Sieve.kept (S.Sieve.meaning sieve.old) }
     requires begun { S.Sieve.rules.subject (S.Sieve.meaning sieve.old) ≡ Some (subject_on course.now) }
-    ensures { Did S.Sieve.rules (subject_on course.now) state t (S.Sieve.meaning sieve.old) counts.old strip.old result (S.Sieve.meaning sieve.new) counts.new strip.new }
+    ensures { Did S.Sieve.rules (subject_on course.now) at.state at.t (S.Sieve.meaning sieve.old) counts.old strip.old result (S.Sieve.meaning sieve.new) counts.new strip.new }
 {
     counts.opened = counts.opened.saturating_add(1);
-    if t == course.card.rounds() {
-        if is_part(course.masks.book.outline.goal, state) {
+    if at.t == course.card.rounds() {
+        if is_part(course.masks.book.outline.goal, at.state) {
             return true;
         }
-        sieve.told(state, t);
+        sieve.told(at);
         return false;
     }
+    // No iter::successors: it would look for the next round before this one is walked, and a walk that finds a plan would do
+    // that in vain at each round.
     let mut after = None;
-    while let Some(round) = course.open_round(state, t, after) {
+    while let Some(round) = course.open_round(at, after) {
         after = Some(round);
-        let next = next_state(&course.masks.book, state, round);
-        if sieve.drops_start(state, t, round) || sieve.drops_standing(next, t + 1) {
+        let next = Standing {
+            state: next_state(&course.masks.book, at.state, round),
+            t: at.t + 1,
+        };
+        if sieve.drops_start(at, round) || sieve.drops_standing(next) {
             counts.dropped = counts.dropped.saturating_add(1);
-        } else if visit(course, sieve, next, t + 1, counts, strip) {
-            strip[t as usize] = round;
+        } else if visit(course, sieve, next, counts, strip) {
+            strip[at.t as usize] = round;
             return true;
         }
     }
-    sieve.told(state, t);
+    sieve.told(at);
     false
 }

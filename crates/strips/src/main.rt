@@ -4,43 +4,26 @@
 use book::book::Book;
 use card::Card;
 use plan_check::check;
-use plan_check::flaws::Flaw;
 use reader::read::read;
 use rounds::finder::round_after;
 use rounds::masks::Masks;
-use std::{fs, io};
+use std::{fs, io, iter};
 
-// Every lawful round at the state, in order.
+// The first lawful rounds at the state, in order; the sample book has fewer at each.
 fn show_rounds(rt: &HostRuntime, masks: &Masks, state: u64) -> io::Result<()> {
     print!(rt; "rounds at {state}:")?;
-    let mut last = None;
-    for _ in 0..64 {
-        let Some(round) = round_after(masks, state, 0, last) else {
-            break;
-        };
+    let first = round_after(masks, state, 0, None);
+    let rounds = iter::successors(first, |last| round_after(masks, state, 0, Some(*last)));
+    for round in rounds.take(64) {
         print!(rt; " {round}")?;
-        last = Some(round);
     }
     println!(rt; "")
-}
-
-fn show_flaw(rt: &HostRuntime, flaw: Flaw) -> io::Result<()> {
-    let number = flaw.number();
-    match flaw {
-        Flaw::StripLength => println!(rt; "no {number}"),
-        Flaw::UnknownAction(t, a) | Flaw::MissingBooking(t, a) | Flaw::UnmetNeed(t, a) => {
-            println!(rt; "no {number} round {t} action {a}")
-        }
-        Flaw::Disturbance(t, a, c) => println!(rt; "no {number} round {t} actions {a} {c}"),
-        Flaw::BarAfter(t, i) => println!(rt; "no {number} round {t} bar {i}"),
-        Flaw::GoalMissed(t) => println!(rt; "no {number} round {t}"),
-    }
 }
 
 fn show_check(rt: &HostRuntime, book: &Book, card: &Card, strip: &[u64]) -> io::Result<()> {
     match check(book, card, strip) {
         Ok(()) => println!(rt; "ok"),
-        Err(flaw) => show_flaw(rt, flaw),
+        Err(flaw) => println!(rt; "{flaw}"),
     }
 }
 

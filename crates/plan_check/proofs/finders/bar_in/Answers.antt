@@ -1,21 +1,12 @@
-use Rattle.std.proofs.Common.{ℕ, sym, subst, arith, below_more}
-use Rattle.std.proofs.lemmas.Bool.Decides.{not_from_Decides}
+use Rattle.std.proofs.Common.{ℕ, rules, tests}
+use Rattle.std.proofs.lemmas.Iterator.{YieldsList-from_slice}
 use Rattle.sets.specs.Sets.{Part}
-use Rattle.book.proofs.Fronts.{bar_is, bars_are}
+use Rattle.sets.proofs.Finds.{placed_lowest}
+use Rattle.book.specs.Views.{task}
 use Rattle.plan_check.proofs.finders.bar_in.Goals as goal
 
-pub returns-then-is_part : goal.returns-then-is_part
-returns-then-is_part c =
-    let book = c.args.book.now in
-    let is = bar_is book.outline c.loop-i.i c.loop-i-test.true in
-    ((omega (arith, bars_are book.outline book.wide book.counted), subst (λ (n : ℕ). Part n c.args.state) (sym is) (c.is_part.ensures.0 c.if-is_part.true)), c.loop-i.invariant)
-
-pub loop-i-preserved : goal.loop-i-preserved
-loop-i-preserved c =
-    let is = bar_is c.args.book.now.outline c.loop-i.i c.loop-i-test.true in
-    below_more _ _ c.loop-i.invariant (λ h. not_from_Decides _ c.is_part.ensures c.if-is_part.false (subst (λ (n : ℕ). Part n c.args.state) is h.1))
-
 pub returns : goal.returns
-returns c k h =
-    let book = c.args.book.now in
-    c.loop-i.invariant k (omega (arith, bars_are book.outline book.wide book.counted, h.0)) h
+returns c =
+    let within = λ (bar : ℕ). Part bar c.args.state in
+    let bars = (task c.args.book.now.outline).bars in
+    placed_lowest within bars 0 _ _ c.position.ensures.ran (YieldsList-from_slice bars (search rules)) (λ x q k. search (rules, tests)) (λ x q k. search (rules, tests)) (λ e. search rules) (λ i l e. search rules)

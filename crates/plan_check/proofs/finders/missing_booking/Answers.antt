@@ -1,20 +1,10 @@
-use Rattle.std.proofs.Common.{arith, below_more}
+use Rattle.std.proofs.Common.{ℕ, rules, tests, arith}
+use Rattle.sets.specs.Sets.{In}
 use Rattle.sets.proofs.Members.{in_below}
-use Rattle.plan_check.proofs.Parts.{has_in, has_out}
+use Rattle.sets.proofs.Finds.{lowest_found}
 use Rattle.plan_check.proofs.finders.missing_booking.Goals as goal
-use Rattle.plan_check.proofs.finders.missing_booking.Goals.{else-contains-via-then-contains+else-not-contains, else-contains-via-else-contains}
-
-pub returns-then-not-contains : goal.returns-then-not-contains
-returns-then-not-contains c =
-    ((has_in _ _ _ c.contains.ensures c.if-contains.true, has_out _ _ _ c.contains-then-contains.ensures c.if-not-contains.true), c.loop-a.invariant)
-
-pub loop-a-preserved : goal.loop-a-preserved
-loop-a-preserved c =
-    below_more _ _ c.loop-a.invariant
-    (λ h. elim c.else-contains.branch [
-      | else-contains-via-then-contains+else-not-contains w ↦ h.1 (has_in _ _ _ w.contains-then-contains.ensures w.if-not-contains.false)
-      | else-contains-via-else-contains w ↦ has_out _ _ _ c.contains.ensures w.if-contains.false h.0
-    ])
 
 pub returns : goal.returns
-returns c k h = c.loop-a.invariant k (let l = in_below 64 k c.args.booked (omega arith) h.0 in omega arith) h
+returns c =
+    let missing = λ (a : ℕ). In a c.args.booked × (In a c.args.round → ⊥) in
+    lowest_found _ _ _ _ missing missing c.find.ensures.ran (λ a t q k. search (rules, tests)) (λ a _ _ h. h) (λ a h. (omega arith, in_below 64 a c.args.booked (search rules) h.0, h))

@@ -1,21 +1,14 @@
-use Rattle.std.proofs.Common.{arith, below_more}
+use Rattle.std.proofs.Common.{length, ap, rules, tests, arith}
+use Rattle.sets.specs.Sets.{In}
 use Rattle.sets.proofs.Members.{in_below}
-use Rattle.book.proofs.Fronts.{actions_are}
-use Rattle.plan_check.proofs.Parts.{has_in, has_out}
+use Rattle.model.specs.Tasks.{Has}
+use Rattle.book.specs.Views.{task}
+use Rattle.sets.proofs.Finds.{lowest_found}
 use Rattle.plan_check.proofs.finders.unknown_action.Goals as goal
 
-pub loop-a-init : goal.loop-a-init
-loop-a-init c k lt h =
-    let book = c.args.book.now in
-    h.1 (omega (arith, actions_are book.outline book.wide book.counted))
-
-pub returns-then-contains : goal.returns-then-contains
-returns-then-contains c =
-    let book = c.args.book.now in
-    ((has_in _ _ _ c.contains.ensures c.if-contains.true, λ has. omega (arith, actions_are book.outline book.wide book.counted)), c.loop-a.invariant)
-
-pub loop-a-preserved : goal.loop-a-preserved
-loop-a-preserved c = below_more _ _ c.loop-a.invariant (λ h. has_out _ _ _ c.contains.ensures c.if-contains.false h.0)
-
 pub returns : goal.returns
-returns c k h = c.loop-a.invariant k (let l = in_below 64 k c.args.round (omega arith) h.0 in omega arith) h
+returns c =
+    let b = task c.args.book.now.outline in
+    let many = ap length c.actions.ensures.actions in
+    lowest_found _ _ _ _ (λ a. In a c.args.round) (λ a. In a c.args.round × (Has b a → ⊥)) c.find.ensures.ran (λ a t q k. search (rules, tests)) (λ a l _ h. (h, λ has. omega (arith, l, has, many)))
+    (λ a h. (omega (arith, h.1, many), in_below 64 a c.args.round (search rules) h.0, h.0))

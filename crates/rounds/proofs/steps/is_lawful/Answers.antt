@@ -1,8 +1,7 @@
 use Rattle.std.proofs.Common.{sym, subst}
-use borrow.Author.Tests.{both_ways}
 use Rattle.model.specs.Plans.{Clear}
 use Rattle.book.specs.Views.{task}
-use Rattle.rounds.proofs.Nodes.{round_loose, loose_round}
+use Rattle.rounds.proofs.Nodes.{loose_round}
 use Rattle.rounds.proofs.steps.is_lawful.Goals as goal
 
 pub returns-then-is_loose : goal.returns-then-is_loose
@@ -12,9 +11,3 @@ returns-then-is_loose c =
       λ e. loose_round b c.args.state c.args.round (c.is_loose.ensures.0 c.if-is_loose.true) (subst (Clear b) is (c.is_clear.ensures.0 e)),
       λ round. c.is_clear.ensures.1 (subst (Clear b) (sym is) round.clear),
     )
-
-pub returns-else-is_loose : goal.returns-else-is_loose
-returns-else-is_loose c = (
-  λ e. absurd (both_ways _ c.if-is_loose.false e),
-  λ round. c.is_loose.ensures.1 (round_loose (task c.args.book.now.outline) c.args.state c.args.round round),
-)

@@ -1,42 +1,41 @@
-use Rattle.std.proofs.Common.{ℕ, ◌+◌, ◌<◌, ◌≤◌, length, sym, refl, ap, ◌∙◌, ap₂, arith}
+use Rattle.std.proofs.Common.{◌≡◌, ℕ, ap₂, rules}
 use lib.Bits.{bit_or}
-use Rattle.model.specs.declared.Action.{Action}
-use Rattle.sets.specs.Sets.{without}
+use Rattle.sets.specs.Sets.{without, Splits}
+use Rattle.model.specs.Tasks.{Has, action}
 use Rattle.book.specs.Views.{task}
-use Rattle.book.proofs.Fronts.{action_is, actions_are}
-use Rattle.rounds.proofs.Gathers.{rest, gather_in, gather_out, gather_all}
+use Rattle.rounds.proofs.Gathers.{gather_in, gather_out, gather_all}
 use Rattle.rounds.proofs.steps.next_state.Goals as goal
-use Rattle.rounds.proofs.steps.next_state.Goals.{then-contains, else-contains}
 
-pub loop-i-init : goal.loop-i-init
-loop-i-init c = (refl, refl)
+pub loop-i-preserved-in-Some-get : goal.loop-i-preserved-in-Some-get
+loop-i-preserved-in-Some-get c =
+    let b = task c.args.book.now.outline in
+    let l = c.loop-i in
+    let i = c.in-Some.i in
+    let rest = c.next.new.self.left in
+    let split : Splits l.i-iterator.left i rest = search rules in
+    let known : Has b i = search rules in
+    let a = c.in-Some-get.action.now in
+    let is : a ≡ action b i = search rules in (
+      gather_in (λ a. a.adds) b l.i-iterator.left i rest split l.adds c.args.round known a is l.invariant.0,
+      gather_in (λ a. a.deletes) b l.i-iterator.left i rest split l.deletes c.args.round known a is l.invariant.1,
+    )
 
 pub loop-i-preserved : goal.loop-i-preserved
 loop-i-preserved c =
-    let o = c.args.book.now.outline in
-    let i = c.loop-i.i in
-    let round = c.args.round in
-    let acts = (task o).actions in
-    let within : i < length acts = omega (arith, actions_are o c.args.book.now.wide c.args.book.now.counted) in
-    let is = action_is o i c.loop-i-test.true in
-    elim c.if-contains.branch [
-      | then-contains w ↦
-          let yes_in = sym c.contains.ensures ∙ w.if-contains.true in (
-            ap (λ (n : ℕ). bit_or n (rest (λ a. a.adds) acts round (i + 1))) (w.adds-is ∙ ap (λ (a : Action). bit_or c.loop-i.adds a.adds) (sym is)) ∙ gather_in (λ a. a.adds) acts round c.loop-i.adds i within yes_in ∙ c.loop-i.invariant.0,
-            ap (λ (n : ℕ). bit_or n (rest (λ a. a.deletes) acts round (i + 1))) (w.deletes-is ∙ ap (λ (a : Action). bit_or c.loop-i.deletes a.deletes) (sym is)) ∙ gather_in (λ a. a.deletes) acts round c.loop-i.deletes i within yes_in ∙ c.loop-i.invariant.1,
-          )
-      | else-contains w ↦
-          let not_in = sym c.contains.ensures ∙ w.if-contains.false in (
-            ap (λ (n : ℕ). bit_or n (rest (λ a. a.adds) acts round (i + 1))) w.adds-is ∙ gather_out (λ a. a.adds) acts round c.loop-i.adds i within not_in ∙ c.loop-i.invariant.0,
-            ap (λ (n : ℕ). bit_or n (rest (λ a. a.deletes) acts round (i + 1))) w.deletes-is ∙ gather_out (λ a. a.deletes) acts round c.loop-i.deletes i within not_in ∙ c.loop-i.invariant.1,
-          )
-    ]
+    let b = task c.args.book.now.outline in
+    let l = c.loop-i in
+    let i = c.in-Some.i in
+    let rest = c.next.new.self.left in
+    let split : Splits l.i-iterator.left i rest = search rules in
+    let lacks : Has b i → ⊥ = λ known. search rules in (
+      gather_out (λ a. a.adds) b l.i-iterator.left i rest split l.adds c.args.round lacks l.invariant.0,
+      gather_out (λ a. a.deletes) b l.i-iterator.left i rest split l.deletes c.args.round lacks l.invariant.1,
+    )
 
 pub returns : goal.returns
 returns c =
-    let o = c.args.book.now.outline in
-    let acts = (task o).actions in
-    let over : length acts ≤ c.loop-i.i = omega (arith, actions_are o c.args.book.now.wide c.args.book.now.counted) in
-    ap₂ (λ (d a : ℕ). bit_or (without c.args.state d) a)
-    (gather_all (λ a. a.deletes) acts c.args.round c.loop-i.deletes c.loop-i.i over ∙ c.loop-i.invariant.1)
-    (gather_all (λ a. a.adds) acts c.args.round c.loop-i.adds c.loop-i.i over ∙ c.loop-i.invariant.0)
+    let b = task c.args.book.now.outline in
+    let l = c.loop-i in
+    let none : l.i-iterator.left ≡ 0 = search rules in
+    ap₂ (λ (d a : ℕ). bit_or (without c.args.state d) a) (gather_all (λ a. a.deletes) b l.i-iterator.left c.args.round l.deletes none l.invariant.1)
+    (gather_all (λ a. a.adds) b l.i-iterator.left c.args.round l.adds none l.invariant.0)

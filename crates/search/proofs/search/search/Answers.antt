@@ -54,7 +54,6 @@ visit-requires g c =
     let long : x.card.rounds ≤ length c.args.strip.now = omega arith in
     record {
       genuine = subst Genuine same ok;
-      charged = c.new-course.ensures.charged;
       standing = subst (λ (y : Subject). Standing y x.task.initial 0) same (beginning x ok);
       room = subst (λ (y : Subject). y.card.rounds ≤ length c.args.strip.now) same long;
       known = known law x ok m stands c.begin.ensures;
