@@ -24,6 +24,7 @@ fn serve(rt: &HostRuntime, book: Book) -> io::Result<()> {
     let mut output = rt.stdout();
     let mut out = String::new(rt.alloc());
     let mut block = [0u8; BLOCK];
+    // A count that is never reached: a loop with no end would need a handle to wait.
     for _ in 0..u64::MAX {
         let n = input.read(&mut block)?;
         if n == 0 {

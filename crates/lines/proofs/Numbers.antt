@@ -2,7 +2,6 @@
 use Rattle.std.proofs.Common.{◌≡◌, ℕ, zero, suc, ◌+◌, ◌-◌, ◌*◌, ◌^◌, ◌<◌, ◌≤◌, false, eqb, List, [], ◌∷◌, ◌++◌, length, get_or, take, drop, decimal, sym, refl, ap, ◌∙◌, ⊎_elim, append-nil, pow-suc, add-one, arith, rules}
 use Rattle.std.proofs.lemmas.Bool.{cases_lt, false≢true}
 use Rattle.std.proofs.lemmas.List.{at_drop_more, at_drop_all, get_or_append_left, get_or_at, take_at, drop_at, take-append-drop, length-append, take_rest}
-use Rattle.std.proofs.lemmas.Slice.{first_rest}
 use Rattle.std.specs.Int.{IsInRange}
 use Rattle.std.proofs.lemmas.Str.Parse.{IsNumeralModel, numerals_by_fold, tells_by_index, digits_value_short}
 use Rattle.std.proofs.lemmas.Fmt.{decimal_digit, digits_decimal, decimal-digits_value, decimal_nonempty, length-decimal-le, first_decimal}
@@ -15,9 +14,6 @@ some (b ∷ s) e = omega arith
 -- what follows the first byte
 abbrev pub rest : List ℕ → List ℕ
 rest s = take (length s - 1) (drop 1 s)
-
-pub parted : (s : List ℕ) (b : ℕ) → 0 < length s → get_or s 0 0 ≡ b → s ≡ b ∷ rest s
-parted s b l e = first_rest s 0 l ∙ ap (λ c. c ∷ rest s) e
 
 abbrev pub read_on : ℕ → List ℕ → ℕ
 read_on n [] = n
@@ -46,12 +42,6 @@ decimal_front s n (h, e) z =
 pub decimal_digits : (s : List ℕ) (n : ℕ) → Decimal s n → AllDigits s
 decimal_digits s n (h, e) = rw e (digits_decimal own n (fits n h))
 
-pub read_more : (n i : ℕ) (s : List ℕ) (c : ℕ) → i < length s → c ≡ get_or s i 0 → read_on n (drop i s) ≡ read_on 0 s → read_on (n * 10 + (c - 48)) (drop (i + 1) s) ≡ read_on 0 s
-read_more n i s c l e h = rw e (sym (at_drop_more (read_on n) s i 0 l) ∙ h)
-
-pub bound_more : (n i d : ℕ) → n < 10 ^ i → d ≤ 9 → n * 10 + d < 10 ^ (i + 1)
-bound_more n i d h k = rw (add-one, pow-suc) (omega arith)
-
 pub read_all : (n i : ℕ) (s : List ℕ) → length s ≤ i → i ≤ length s → 0 < length s → length s ≤ 5 → (get_or s 0 0 ≡ 48 → length s ≡ 1)
     → read_on n (drop i s) ≡ read_on 0 s → ((k : ℕ) → k < i → IsInRange 48 57 (get_or s k 0)) → Decimal s n
 read_all n i s le ge some few lead h ds =
@@ -62,12 +52,6 @@ read_all n i s le ge some few lead h ds =
 
 one : (a : ℕ) → spaced (a ∷ []) ≡ 32 ∷ decimal a
 one a = ap (λ (l : List ℕ). 32 ∷ l) (append-nil (decimal a))
-
-pub number_joined : (s : List ℕ) (n : ℕ) → 0 < length s → get_or s 0 0 ≡ 32 → Decimal (rest s) n → Spaced s (n ∷ [])
-number_joined s n l e (h, d) = ((h, tt), parted s 32 l e ∙ ap (λ (t : List ℕ). 32 ∷ t) d ∙ sym (one n))
-
-pub number_rest : (s : List ℕ) (n : ℕ) → Spaced s (n ∷ []) → Decimal (rest s) n
-number_rest s n ((h, u), e) = (h, take_rest s 1 ∙ ap (drop 1) (e ∙ one n))
 
 joint : (a b : ℕ) → spaced (a ∷ b ∷ []) ≡ spaced (a ∷ []) ++ spaced (b ∷ [])
 joint a b = ap (λ (l : List ℕ). 32 ∷ (l ++ spaced (b ∷ []))) (sym (append-nil (decimal a)))
@@ -98,7 +82,3 @@ module _ (s : List ℕ) (i : ℕ) (within : i ≤ length s) (past : 0 < length s
         ((h, tt), ap (take i) f ∙ take_at (spaced (a ∷ [])) (spaced (b ∷ [])) i (sym p)),
         ((k, tt), take_rest s i ∙ ap (drop i) f ∙ drop_at (spaced (a ∷ [])) (spaced (b ∷ [])) i (sym p)),
       )
-
-pub pair_joined : (s : List ℕ) (i a b : ℕ) → Spaced (take i s) (a ∷ []) → Spaced (take (length s - i) (drop i s)) (b ∷ []) → Spaced s (a ∷ b ∷ [])
-pair_joined s i a b ((h, u), p) ((k, v), q) =
-    ((h, (k, tt)), sym (take-append-drop i s) ∙ (λ j. p j ++ (sym (take_rest s i) ∙ q) j) ∙ sym (joint a b))

@@ -1,16 +1,11 @@
 use Rattle.std.specs.Prelude.{ℕ, List, ◌++◌, Some, None, codes, decimal, Option}
 use Rattle.lines.specs.declared.reply.Reply.{Reply}
-use Rattle.lines.specs.declared.reply.Counts.{Counts}
 use Rattle.lines.specs.declared.reply.Reply.TheVariants.{Distance, Gap, No, BookNo}
 
 -- a number that may be never
 abbrev pub number_or_never : Option ℕ → List ℕ
 number_or_never (Some n) = decimal n
 number_or_never None = codes "never"
-
--- what a search opened and dropped
-abbrev pub counted : Counts → List ℕ
-counted n = codes "opened " ++ (decimal n.opened ++ (codes " dropped " ++ decimal n.dropped))
 
 -- the bytes of a reply, without its line feed
 abbrev pub text : Reply → List ℕ

@@ -17,7 +17,7 @@ fn digits(s: &[u8]) -> Result<u32, NotACommand>
     }
     let mut n: u32 = 0;
     for b in s {
-        if *b < b'0' || *b > b'9' {
+        if !b.is_ascii_digit() {
             return Err(NotACommand);
         }
         n = n * 10 + (*b - b'0') as u32;
@@ -28,10 +28,10 @@ fn digits(s: &[u8]) -> Result<u32, NotACommand>
 fn number(s: &[u8]) -> Result<u32, NotACommand>
     ensures { Reads (λ n. Spaced s.now (n ∷ [])) result }
 {
-    if s.is_empty() || s[0] != b' ' {
-        return Err(NotACommand);
+    match s {
+        [b' ', rest @ ..] => digits(rest),
+        _ => Err(NotACommand),
     }
-    digits(&s[1..])
 }
 
 // The place of the first space past the first byte, or the length.
@@ -41,12 +41,10 @@ fn split(s: &[u8]) -> usize
     ensures before { (k : ℕ) → 0 < k → k < result → slice_index s.now k ≢ 32 }
     ensures found { result < length s.now → slice_index s.now result ≡ 32 }
 {
-    for i in 1..s.len() {
-        if s[i] == b' ' {
-            return i;
-        }
-    }
-    s.len()
+    s.iter()
+        .skip(1)
+        .position(|b| *b == b' ')
+        .map_or(s.len(), |i| i + 1)
 }
 
 fn pair(s: &[u8]) -> Result<(u32, u32), NotACommand>
@@ -61,11 +59,10 @@ fn pair(s: &[u8]) -> Result<(u32, u32), NotACommand>
 pub fn read(line: &[u8]) -> Result<Command, NotACommand>
     ensures { Commands line.now result }
 {
-    if line.is_empty() {
+    let Some((first, rest)) = line.split_first() else {
         return Err(NotACommand);
-    }
-    let rest = &line[1..];
-    match line[0] as char {
+    };
+    match *first as char {
         'd' => {
             let (v, w) = pair(rest)?;
             Ok(Command::Distance(v, w))

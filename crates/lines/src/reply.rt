@@ -1,30 +1,17 @@
 ghost use Rattle.std.specs.Prelude.{◌≡◌, [], ◌∷◌, ◌++◌, is_ok, if◌then◌else◌, Some, string_bytes};
-ghost use Rattle.lines.specs.Replies.{counted, text};
+ghost use Rattle.lines.specs.Replies.{text};
 
+pub use model::counts::Counts;
 use std::alloc::AllocError;
 use std::fmt;
 
-// How many nodes a search opened, and how many it dropped.
-#[derive(Clone, Copy, Debug)]
-pub struct Counts {
-    pub opened: u64,
-    pub dropped: u64,
-}
-
+// What is printed. A refusal is its number here, which is all that a line shows of it; why it is refused stands in the session.
 #[derive(Clone, Copy, Debug)]
 pub enum Reply {
     Distance(Option<u8>),
     Gap(Option<u8>),
     No(u8),
     BookNo(u8),
-}
-
-impl fmt::Display for Counts {
-    ghost output = { λ x. Some (counted x) };
-
-    fn fmt<W: fmt::Write>(&self, f: &mut fmt::Formatter<W>) -> fmt::Result {
-        write!(f, "opened {} dropped {}", self.opened, self.dropped)
-    }
 }
 
 impl fmt::Display for Reply {

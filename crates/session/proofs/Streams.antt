@@ -48,14 +48,6 @@ module _ (b : Task) where
     put,
   )
 
-  -- the end, with no line left
-  pub whole_empty : (kept typed printed : List ℕ) → kept ≡ [] → Follows b kept typed printed → Whole b typed (printed ++ [])
-  whole_empty kept typed printed e (line, prints, front) = (printed, line, [], prints, inl (none line (front ∙ e), refl), refl)
-    where
-      none : (l : List ℕ) → take 16 l ≡ [] → l ≡ []
-      none [] h = refl
-      none (x ∷ l) h = let z : ◌≡◌ {A = ℕ} 0 1 = cc in absurd (omega arith)
-
   -- the end, with a line left
   pub whole_line : (kept typed printed : List ℕ) (reply : Reply) → (kept ≡ [] → ⊥) → Replies b kept reply → Follows b kept typed printed → Whole b typed (printed ++ (text reply ++ (10 ∷ [])))
   whole_line kept typed printed reply some r (line, prints, front) = (

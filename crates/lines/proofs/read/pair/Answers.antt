@@ -1,4 +1,4 @@
-use Rattle.lines.proofs.Numbers.{cut, pair_joined}
+use Rattle.lines.proofs.Numbers.{cut}
 use Rattle.lines.proofs.Reading.{refused}
 use Rattle.lines.proofs.read.pair.Goals as goal
 
@@ -13,6 +13,3 @@ returns-in_err-b c =
     let f = c.split-i.ensures in
     refused _ c.from_residual-in_err-b.result c.from_residual-in_err-b.ensures.0
     (λ p h. c.in_err-b.ensures p.1 (cut c.args.s.now c.split-i.result f.within f.past f.before f.found p.0 p.1 h).1)
-
-pub returns : goal.returns
-returns c = pair_joined c.args.s.now c.split-i.result _ _ c.in_ok-a.ensures c.in_ok-b.ensures

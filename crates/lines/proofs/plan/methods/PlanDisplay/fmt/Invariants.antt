@@ -1,8 +1,0 @@
-use Rattle.std.proofs.Common.{take}
-use Rattle.std.specs.Fmt.{IsPlainFormatter, HasWritten}
-use Rattle.lines.specs.Commands.{spaced}
-use Rattle.lines.specs.Plans.{planned}
-use Rattle.lines.proofs.plan.methods.PlanDisplay.fmt.Given as goal
-
-abbrev pub invariant-loop-round : goal.invariant-loop-round
-invariant-loop-round g l = IsPlainFormatter l.initial.f → HasWritten g.W.Write.write_str_gives l.initial.f (spaced (take l.round-index (planned l.self))) l.f
