@@ -31,9 +31,34 @@ impl<T: Blank, const N: usize> Model for Few<T, N> {
 impl<T: Blank, const N: usize> Copy for Few<T, N> {}
 
 impl<T: Blank, const N: usize> Clone for Few<T, N> {
+    ghost use Rattle.std.specs.Prelude.{◌≡◌, ⊤};
+
+    ghost is_clone = { λ v w. w ≡ v };
+
+    ghost is_infallible = { λ _. ⊤ };
+
     fn clone(&self) -> Result<Self, AllocError> {
         Ok(*self)
     }
+}
+
+// By hand: a derived `==` would compare the places, those past the end too.
+impl<T: Blank + PartialEq, const N: usize> PartialEq for Few<T, N> {
+    ghost use Rattle.std.specs.Cmp.Lexicographic.{pointwise, lists_per};
+
+    ghost eq = { pointwise T.eq };
+
+    ghost laws = { lists_per T.laws };
+
+    fn eq(&self, other: &Self) -> bool {
+        self.as_slice() == other.as_slice()
+    }
+}
+
+impl<T: Blank + Eq, const N: usize> Eq for Few<T, N> {
+    ghost use Rattle.std.specs.Cmp.Lexicographic.{lists_equiv};
+
+    ghost laws = { lists_equiv T.Eq.laws };
 }
 
 impl<T: Blank + fmt::Debug, const N: usize> fmt::Debug for Few<T, N> {
@@ -118,9 +143,11 @@ impl<T: Blank, const N: usize> Few<T, N> {
         requires { length self.old + length items.now ≤ N }
         ensures { self.new ≡ self.old ++ items.now }
     {
-        for item in items {
-            self.push(*item);
-        }
+        let at = self.len;
+        let end = at + items.len();
+        let slots = &mut self.slots[..];
+        slots[at..end].copy_from_slice(items);
+        self.len = end;
     }
 
     pub fn clear(&mut self)
