@@ -3,7 +3,7 @@ ghost use Rattle.std.specs.Prelude.{◌≡◌, ◌+◌, ◌≤◌, ◌++◌, len
 ghost use Rattle.std.specs.List.{flat_map};
 ghost use Rattle.reader.specs.Written.{written};
 
-use crate::records::{Row, counts, ends};
+use crate::records::{Row, counts, put_ends};
 use crate::sizes::LONGEST;
 use book::book::Book;
 use few::few::Few;
@@ -13,7 +13,7 @@ fn put_rows<T: Row>(file: &mut Few<u8, LONGEST>, rows: &[T])
     ensures { file.new ≡ file.old ++ flat_map T.format rows.now }
 {
     for row in rows {
-        file.extend_from_slice(&row.bytes());
+        row.put(file);
     }
 }
 
@@ -21,7 +21,7 @@ pub fn file(book: &Book) -> Few<u8, LONGEST>
     ensures { result ≡ written book.now.outline }
 {
     let mut file = Few::first_of(&counts(book));
-    file.extend_from_slice(&ends(book.outline.initial, book.outline.goal));
+    put_ends(&mut file, book.outline.initial, book.outline.goal);
     put_rows(&mut file, book.actions());
     put_rows(&mut file, book.groups());
     put_rows(&mut file, book.bars());

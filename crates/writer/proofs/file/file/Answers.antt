@@ -7,11 +7,18 @@ use Rattle.reader.specs.Written.{set_bytes, counts_bytes, ends_bytes, action_byt
 use Rattle.writer.proofs.Lengths.{file_most}
 use Rattle.writer.proofs.file.file.Goals as goal
 
+pub put_ends-requires : goal.put_ends-requires
+put_ends-requires c =
+    let o = c.args.book.now.outline in
+    let most = file_most o (lawful_from (task o) c.args.book.now.lawful) in
+    let front : c.first_of-file.result ≡ counts_bytes o = search rules in
+    rw front (omega (arith, most))
+
 pub put_rows-requires : goal.put_rows-requires
 put_rows-requires c =
     let o = c.args.book.now.outline in
     let most = file_most o (lawful_from (task o) c.args.book.now.lawful) in
-    let head : c.extend_from_slice.new.self ≡ counts_bytes o ++ ends_bytes o.initial o.goal = search rules in
+    let head : c.put_ends.new.file ≡ counts_bytes o ++ ends_bytes o.initial o.goal = search rules in
     rw (c.actions.ensures.actions, head, length-append) (omega (arith, most))
 
 pub put_rows-requires-2 : goal.put_rows-requires-2

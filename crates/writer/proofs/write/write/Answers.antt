@@ -8,7 +8,7 @@ use Rattle.writer.proofs.write.write.Goals as goal
 pub returns-clause-back : goal.returns-clause-back
 returns-clause-back c r reads =
     let file = written c.args.book.now.outline in
-    let n = c.len-n.result in
+    let n = c.file_length-n.result in
     let is : c.copy_from_slice.new.self ≡ file = search rules in
     let long : length file ≡ n = search rules in
     reads_back c.args.book.now r (subst (λ (l : List ℕ). Reads l r) (ap (λ (l : List ℕ). take n (l ++ drop n c.args.out.now)) is ∙ take_at file (drop n c.args.out.now) n long) reads)
