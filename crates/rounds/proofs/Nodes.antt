@@ -1,13 +1,11 @@
 -- The steps of the search: what a node's answer is, from those of its two parts or from a look at the node alone.
-use Rattle.std.proofs.Common.{◌≡◌, ℕ, ◌*◌, ◌%◌, ◌^◌, ◌<◌, ◌≤◌, ◌⊎◌, get_or, Some, None, Option, sym, refl, ap, ◌∙◌, subst, inl, inr, ⊎_elim, arith}
-use mathlib.Core.Logic.{∥∥₁_elim}
-use mathlib.Core.HLevel.{⊥_prop}
+use Rattle.std.proofs.Common.{◌≡◌, ℕ, ◌*◌, ◌%◌, ◌^◌, ◌<◌, ◌≤◌, ◌⊎◌, length, get_or, Some, None, Option, sym, refl, ap, ◌∙◌, subst, inl, inr, ⊎_elim, arith}
 use lib.Bits.{bit_or, or_zero_r}
 use Rattle.std.proofs.lemmas.Bool.{cases_eq}
 use Rattle.sets.specs.Sets.{In, Part, without, Marks}
 use Rattle.sets.proofs.Members.{nothing_in, out_or_in, in_or, or_left, or_right, in_without, without_in, same_members, single_is, single_has, shift_is}
 use Rattle.model.specs.declared.Action.{Action}
-use Rattle.model.specs.Tasks.{Task, action, bar, Lawful}
+use Rattle.model.specs.Tasks.{Task, action, bar}
 use Rattle.model.specs.Plans.{Disturb, next, Clear, Round}
 use Rattle.model.proofs.Moves.{SomeOf, in_next, stays_in, comes_in}
 use Rattle.book.specs.Views.{task}
@@ -307,5 +305,5 @@ pub none_loose : (b : Task) (state must free low : ℕ) → Marks (Joins b state
 none_loose b state must free low marks bars q l good = bars (λ i h. marks.all i (good_loose b state must q good i (good.1 i h)))
 
 -- no round has a number from 2 ^ 64 on
-pub none_past : (b : Task) (state must from : ℕ) → ∥ Lawful b ∥₁ → 2 ^ 64 ≤ from → NoneOn b state must from
-none_past b state must from lawful past q l good = ∥∥₁_elim lawful ⊥_prop (λ ok. omega (arith, past, l, all_below 64 q (λ i h. omega (arith, good.0.known i h, ok.few_actions))))
+pub none_past : (b : Task) (state must from : ℕ) → length b.actions ≤ 64 → 2 ^ 64 ≤ from → NoneOn b state must from
+none_past b state must from few past q l good = omega (arith, past, l, all_below 64 q (λ i h. omega (arith, good.0.known i h, few)))

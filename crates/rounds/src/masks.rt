@@ -1,9 +1,11 @@
-ghost use Rattle.std.specs.Prelude.{◌≡◌};
+ghost use Rattle.std.specs.Prelude.{◌≡◌, ◌≢◌, ◌<◌, length, slice_index_or, Decides};
 ghost use Rattle.sets.specs.Sets.{Marks};
+ghost use Rattle.model.specs.Tasks.{idle};
+ghost use Rattle.model.specs.Plans.{Disturb};
 ghost use Rattle.book.specs.Views.{task};
 ghost use Rattle.rounds.specs.Tables.{Clash, Breaks, Clashes, Breakers};
 
-use crate::steps::clash;
+use crate::steps::disturb;
 use book::book::Book;
 use sets::gather::gather;
 use sets::meets;
@@ -21,11 +23,21 @@ pub struct Masks {
     ghost breach: { ∥ Breakers (task book.outline) breakers ∥₁ },
 }
 
-// The actions that clash with the action i.
+// The actions that clash with the action i; none with one that the book lacks. Not by clash, which would look up both actions at each turn.
 fn clashing(book: &Book, i: u32) -> u64
     ensures { Marks (Clash (task book.now.outline) i) result }
 {
-    gather(book.actions().len() as u32, |j| clash(book, i, j))
+    let actions = book.actions();
+    let Some(action) = actions.get(i as usize) else {
+        return 0;
+    };
+    gather(
+        actions.len() as u32,
+        |j|
+            requires { j < length actions.now }
+            ensures { Decides result ((i ≢ j) × Disturb action.entry.now (slice_index_or actions.entry.now j idle)) }
+        { i != j && disturb(*action, actions[j as usize]) },
+    )
 }
 
 // The actions that break the bar k; a bar that the book lacks has no fact.
@@ -33,9 +45,11 @@ fn breaking(book: &Book, k: usize) -> u64
     ensures { Marks (Breaks (task book.now.outline) k) result }
 {
     let actions = book.actions();
-    let bar = book.bars().get(k).copied().unwrap_or(0);
+    let Some(bar) = book.bars().get(k) else {
+        return 0;
+    };
     gather(actions.len() as u32, |j| {
-        meets(actions[j as usize].deletes, bar)
+        meets(actions[j as usize].deletes, *bar)
     })
 }
 

@@ -1,6 +1,7 @@
 use Rattle.std.proofs.Common.{◌≡◌, ℕ, suc, ◌^◌, ◌≤◌, None, sym, subst, subst₂, rules}
 use Rattle.std.proofs.lemmas.Bool.Decides.{not_from_Decides}
 use Rattle.sets.proofs.Members.{in_without}
+use Rattle.model.proofs.Laws.{lawful_from}
 use Rattle.book.specs.Views.{task}
 use Rattle.rounds.specs.Firsts.{past, Answered}
 use Rattle.rounds.proofs.Nodes.{sound_root, answered, none_loose, none_past}
@@ -12,7 +13,7 @@ returns-in_err-low-in-Some c =
     let book = c.args.masks.now.book in
     let over : 2 ^ 64 ≤ suc c.in-Some.last = search rules in
     let none : None ≡ c.from_residual.result = search rules in
-    subst₂ (λ o r. Answered (task book.outline) c.args.state c.args.must (past o) r) (sym c.in-Some.is) none (none_past (task book.outline) c.args.state c.args.must (suc c.in-Some.last) book.lawful over)
+    subst₂ (λ o r. Answered (task book.outline) c.args.state c.args.must (past o) r) (sym c.in-Some.is) none (none_past (task book.outline) c.args.state c.args.must (suc c.in-Some.last) (lawful_from (task book.outline) book.lawful).few_actions over)
 
 pub returns-then-not-is_part : goal.returns-then-not-is_part
 returns-then-not-is_part c =
