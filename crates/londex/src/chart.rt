@@ -101,13 +101,11 @@ impl<'a> Chart<'a> {
         ensures { Spaced (task self.now.book.now.outline) result.rows }
     {
         self.law();
-        Table {
-            rows: array::from_fn(
-                |a|
-                    ensures { GapsFrom (task self.entry.now.book.now.outline) a (entry result) }
-                { self.gaps_from(a) },
-            ),
+        let mut rows = [[None; 64]; 64];
+        for (a, row) in rows.iter_mut().enumerate() {
+            *row = self.gaps_from(a);
         }
+        Table { rows }
     }
 }
 

@@ -11,7 +11,6 @@ use crate::table::Table;
 use book::book::Book;
 use sets::contains;
 use sets::iter::members_of;
-use std::array;
 
 // Writes d at each member of the set.
 fn write(row: &mut [Option<u8>; 64], set: u64, d: u8)
@@ -74,12 +73,9 @@ pub(crate) fn distance_table(book: &Book) -> Table
 {
     book.law();
     let arcs = arc_table(book);
-    Table {
-        rows: array::from_fn(
-            |v|
-                requires { v < 64 }
-                ensures { (w : ℕ) → w < 64 → Least (graph arcs) v w (entry result w) }
-            { distances_from(&arcs, v as u32) },
-        ),
+    let mut rows = [[None; 64]; 64];
+    for (v, row) in rows.iter_mut().enumerate() {
+        *row = distances_from(&arcs, v as u32);
     }
+    Table { rows }
 }
