@@ -9,11 +9,15 @@ use rounds::finder::round_after;
 use rounds::masks::Masks;
 use std::{fs, io, iter};
 
-// The first lawful rounds at the state, in order; the sample book has fewer at each.
+// The first lawful rounds at the state, in order; the sample book has fewer at each. No iter::successors: it would look for the next
+// round before this one is printed, and for one that is not.
 fn show_rounds(rt: &HostRuntime, masks: &Masks, state: u64) -> io::Result<()> {
     print!(rt; "rounds at {state}:")?;
-    let first = round_after(masks, state, 0, None);
-    let rounds = iter::successors(first, |last| round_after(masks, state, 0, Some(*last)));
+    let mut last = None;
+    let rounds = iter::from_fn(|| {
+        last = round_after(masks, state, 0, last);
+        last
+    });
     for round in rounds.take(64) {
         print!(rt; " {round}")?;
     }
