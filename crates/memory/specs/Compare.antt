@@ -1,6 +1,6 @@
 -- What the tests on lists decide.
-use Rattle.std.specs.Prelude.{◌≡◌, ℕ, zero, suc, ◌<◌, Bool, true, List, [], ◌∷◌, length, Decides, slice_index_or, refl}
-use Rattle.std.proofs.Common.{ap, ◌∙◌, ⊎_elim, arith}
+use Rattle.std.specs.Prelude.{◌≡◌, ℕ, zero, suc, ◌<◌, Bool, true, false, ◌||◌, List, [], ◌∷◌, ◌++◌, length, take, drop, Decides, slice_index_or, refl}
+use Rattle.std.proofs.Common.{sym, ap, ◌∙◌, ⊎_elim, arith, take-append-drop}
 use Rattle.std.proofs.lemmas.Bool.{eq-eqb, eqb-true, and_parts, and_from, or_cases, or_left, or_right, false≢true}
 use Rattle.std.specs.List.{ContainsAt}
 use Rattle.model.specs.declared.Booking.{Booking}
@@ -34,6 +34,25 @@ module _ {A : Type 0} {f : A → A → Bool} (test : Test f) where
       here [] k lt e = absurd (omega arith)
       here (z ∷ zs) zero lt e = or_left _ _ ((test z x).1 (e z))
       here (z ∷ zs) (suc k) lt e = or_right _ _ (here zs k (omega arith) e)
+
+  or_append : (x : A) (ys zs : List A) → among f x (ys ++ zs) ≡ (among f x ys || among f x zs)
+  or_append x [] zs = refl
+  or_append x (y ∷ ys) zs = ap (λ (b : Bool). f y x || b) (or_append x ys zs) ∙ assoc (f y x) (among f x ys) (among f x zs)
+    where
+      assoc : (a b c : Bool) → (a || (b || c)) ≡ ((a || b) || c)
+      assoc true b c = refl
+      assoc false b c = refl
+
+  -- where the two parts stand in the other order
+  pub among_turned : (x : A) (n : ℕ) (ys : List A) → among f x (drop n ys ++ take n ys) ≡ among f x ys
+  among_turned x n ys =
+      or_append x (drop n ys) (take n ys) ∙ swap (among f x (drop n ys)) (among f x (take n ys)) ∙ sym (or_append x (take n ys) (drop n ys)) ∙ ap (among f x) (take-append-drop n ys)
+    where
+      swap : (a b : Bool) → (a || b) ≡ (b || a)
+      swap true true = refl
+      swap true false = refl
+      swap false true = refl
+      swap false false = refl
 
 -- ---- bookings
 

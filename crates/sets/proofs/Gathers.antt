@@ -3,7 +3,7 @@ use Rattle.std.proofs.Common.{ℕ, ◌+◌, ◌*◌, ◌%◌, ◌^◌, ◌<◌, 
 use lib.Bits.{bit_or}
 use Rattle.std.proofs.lemmas.Bool.{cases_eq}
 use Rattle.sets.specs.Sets.{In, Marks, Gathered}
-use Rattle.sets.proofs.Members.{in_or, or_left, or_right, out_or_in, single_is, single_has, shift_is, nothing_in}
+use Rattle.sets.proofs.Members.{in_or, or_left, or_right, out_or_in, single_is, single_has, shift_is}
 
 module _ (R : ℕ → Bool → Type 0) where
   pub gathered_in : (i s : ℕ) → i < 64 → R i true → Gathered R i s → Gathered R (i + 1) (bit_or s ((1 * 2 ^ i) % 2 ^ 64))

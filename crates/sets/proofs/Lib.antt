@@ -1,5 +1,6 @@
 pub mod Members
 pub mod Counts
+pub mod Marks
 pub mod Digits
 pub mod Gathers
 pub mod Chains
