@@ -2,6 +2,7 @@ ghost use Rattle.std.specs.Prelude.{Option};
 ghost use Rattle.model.specs.Sieves.{Subject};
 ghost use Rattle.sieve.specs.Kinds.{Fresh, Always};
 ghost use Rattle.lookahead.specs.Kinds.{goal_rules, GoalJust, Real};
+ghost use Rattle.lookahead.specs.declared.deadlines.Deadlines.{Deadlines};
 ghost use Rattle.lookahead.specs.Views.{deadlines_on};
 ghost use Rattle.lookahead.specs.Laws.{goal_law};
 ghost use Rattle.std.proofs.Common.{rules};
@@ -11,6 +12,7 @@ use book::book::Book;
 use card::Card;
 use model::Standing;
 use sieve::sieve::Sieve;
+use std::marker::Model;
 
 // Drops a standing with a fact that is too far from one of its group that is due. Gap is its twin; it says why they are two.
 #[derive(Clone, Copy)]
@@ -18,9 +20,17 @@ pub struct Goal {
     begun: Option<Deadlines>,
 }
 
+impl Model for Goal {
+    ghost Value = { Option Deadlines };
+
+    ghost view = { λ s. s.begun };
+
+    ghost inverse = { λ begun. record { begun = begun } };
+}
+
 impl Goal {
     pub fn new() -> Goal
-        ensures fresh { Fresh goal_rules (deadlines_on result.begun) }
+        ensures fresh { Fresh goal_rules (deadlines_on result) }
         ensures just { GoalJust }
     {
         Goal { begun: None }
@@ -30,7 +40,7 @@ impl Goal {
 impl Sieve for Goal {
     ghost Meaning = { Option Subject };
 
-    ghost meaning = { λ s. deadlines_on s.begun };
+    ghost meaning = { deadlines_on };
 
     ghost rules = { goal_rules };
 

@@ -33,6 +33,11 @@ abbrev pub LostFor : Option Subject → Standing → Type 0
 LostFor None k = ⊥
 LostFor (Some x) k = Lost x k
 
+-- what a memory is made of: the sieve below, and the table of what it was told
+pub record Parts (S T : Type 0) : Type 0 where
+  pub below : S
+  pub table : T
+
 -- a memory means its subject, what it was told in order, and the sieve below
 pub record Remembered (M : Type 0) : Type 0 where
   pub seen : Option Subject

@@ -2,7 +2,8 @@ ghost use Rattle.std.specs.Prelude.{◌≡◌};
 ghost use Rattle.sieve.specs.Subjects.{seen_on};
 ghost use Rattle.sieve.specs.Kinds.{Fresh};
 ghost use Rattle.memory.specs.Keeping.{KeepsJust};
-ghost use Rattle.memory.specs.Memories.{Remembered, remembered, memory_rules, MemoryWhole, MemoryKept};
+ghost use Rattle.memory.specs.declared.table.Table.{Table};
+ghost use Rattle.memory.specs.Memories.{Parts, Remembered, remembered, memory_rules, MemoryWhole, MemoryKept};
 ghost use Rattle.memory.specs.Noting.{memory_law};
 ghost use Rattle.std.proofs.Common.{rules};
 
@@ -11,12 +12,19 @@ use book::book::Book;
 use card::Card;
 use model::Standing;
 use sieve::sieve::Sieve;
+use std::marker::Model;
 
 // Drops what the sieve below drops, and the last 128 different standings that it was told.
 #[derive(Drop)]
 pub struct Memory<S> {
     below: S,
     table: Table,
+}
+
+impl<S> Model for Memory<S> {
+    ghost Value = { Parts S Table };
+
+    ghost view = { λ s. record { below = s.below; table = s.table } };
 }
 
 impl<S: Sieve> Memory<S> {

@@ -1,5 +1,6 @@
 ghost use Rattle.std.specs.Prelude.{Option};
 ghost use Rattle.model.specs.Sieves.{Subject};
+ghost use Rattle.sieve.specs.declared.seen.Seen.{Seen};
 ghost use Rattle.sieve.specs.Subjects.{seen_on};
 ghost use Rattle.sieve.specs.Kinds.{open_rules, Fresh, Always};
 ghost use Rattle.std.proofs.Common.{rules};
@@ -9,6 +10,7 @@ use crate::sieve::Sieve;
 use book::book::Book;
 use card::Card;
 use model::Standing;
+use std::marker::Model;
 
 // Drops nothing.
 #[derive(Clone, Copy)]
@@ -16,9 +18,17 @@ pub struct Open {
     seen: Option<Seen>,
 }
 
+impl Model for Open {
+    ghost Value = { Option Seen };
+
+    ghost view = { λ s. s.seen };
+
+    ghost inverse = { λ seen. record { seen = seen } };
+}
+
 impl Open {
     pub fn new() -> Open
-        ensures { Fresh open_rules (seen_on result.seen) }
+        ensures { Fresh open_rules (seen_on result) }
     {
         Open { seen: None }
     }
@@ -27,7 +37,7 @@ impl Open {
 impl Sieve for Open {
     ghost Meaning = { Option Subject };
 
-    ghost meaning = { λ s. seen_on s.seen };
+    ghost meaning = { seen_on };
 
     ghost rules = { open_rules };
 
