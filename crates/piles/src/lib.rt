@@ -32,12 +32,16 @@ mod tests {
         \x48\0\0\0\0\0\0\0";
 
     // The strip of the plan that the search through the sieve finds, where it finds one.
-    fn strip<S: Sieve + Drop>(book: &Book, card: &Card, sieve: S) -> Option<[u64; 6]> {
+    fn strip<S: Sieve + Drop>(
+        book: &Book,
+        card: &Card,
+        sieve: S,
+    ) -> Result<Option<[u64; 6]>, Refusal> {
         let mut used = sieve;
         let mut strip = [0; 6];
-        match search(book, card, &mut used, &mut strip) {
-            Ok(Outcome::Plan(_)) => Some(strip),
-            _ => None,
+        match search(book, card, &mut used, &mut strip)? {
+            Outcome::Plan(_) => Ok(Some(strip)),
+            Outcome::NoPlan(_) => Ok(None),
         }
     }
 
@@ -55,23 +59,16 @@ mod tests {
         let mut card = Card::new();
         card.stretch(6)?;
         card.book(4, 2)?;
-        let plain = strip(&book, &card, Open::new()).expect(&rt, "a plan");
+        let plain = strip(&book, &card, Open::new())?.expect(&rt, "a plan");
         assert_eq!(rt; check(&book, &card, &plain), Ok(()));
-        assert_eq!(rt;
-            strip(&book, &card, Pair::new(Gap::new(), Goal::new())),
-            Some(plain)
-        );
-        assert_eq!(rt; strip(&book, &card, Memory::new(Open::new())), Some(plain));
+        let pair = Pair::new(Gap::new(), Goal::new());
+        assert_eq!(rt; strip(&book, &card, pair)?, Some(plain));
+        let told = Memory::new(Open::new());
+        assert_eq!(rt; strip(&book, &card, told)?, Some(plain));
         let both = Memory::new(Pair::new(Gap::new(), Goal::new()));
-        assert_eq!(rt; strip(&book, &card, both), Some(plain));
-        assert_eq!(rt;
-            strip(
-                &book,
-                &card,
-                Pair::new(Memory::new(Gap::new()), Open::new())
-            ),
-            Some(plain)
-        );
+        assert_eq!(rt; strip(&book, &card, both)?, Some(plain));
+        let over = Pair::new(Memory::new(Gap::new()), Open::new());
+        assert_eq!(rt; strip(&book, &card, over)?, Some(plain));
         Ok(())
     }
 
@@ -80,7 +77,7 @@ mod tests {
         let book = read(SAMPLE)?;
         let mut card = Card::new();
         card.stretch(4)?;
-        assert!(rt; strip(&book, &card, Memory::new(Open::new())).is_none());
+        assert_eq!(rt; strip(&book, &card, Memory::new(Open::new()))?, None);
         match twice(&book, &card) {
             Ok(Outcome::NoPlan(counts)) => assert_eq!(rt; counts.opened, 0),
             _ => panic!(rt; "a plan of four rounds"),
